@@ -12,7 +12,7 @@ use std::alloc::{AllocError, Global};
 
 /// What has a block of a file: a block of the disk, a block of a staging file (by its inode), or
 /// nothing, and then the block reads as zeros.
-#[derive(Clone, Copy, Debug, PartialEq, Eq)]
+#[derive(Clone, Copy)]
 pub enum Source {
     Disk(u32),
     Staged(u32, u32),
@@ -20,7 +20,7 @@ pub enum Source {
 }
 
 /// Bytes of one block, one after the other.
-#[derive(Clone, Copy, Debug, PartialEq, Eq)]
+#[derive(Clone, Copy)]
 pub struct Piece {
     /// What has the block.
     pub source: Source,

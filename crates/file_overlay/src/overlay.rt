@@ -12,7 +12,7 @@ use std::mem;
 const PLACES: usize = 3;
 
 /// The staged runs of a file, in the order in which they were laid, and room for more.
-#[derive(Debug, Drop)]
+#[derive(Drop)]
 pub struct Overlay {
     runs: Vec<Run>,
     // What the runs leave of each other, in the order of the file.

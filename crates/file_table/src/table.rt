@@ -11,7 +11,7 @@ use std::marker::Model;
 
 /// Of each inode line the runs that are staged of its file and the size of the file by them, and the
 /// blocks that all these sizes hold.
-#[derive(Debug, Drop)]
+#[derive(Drop)]
 pub struct FileTable {
     overlays: Vec<Overlay>,
     sizes: Vec<u64>,

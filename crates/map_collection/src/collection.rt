@@ -8,7 +8,7 @@ use std::alloc::{AllocError, Global};
 use std::marker::Model;
 
 /// Translations of file blocks, by inode and block.
-#[derive(Debug, Drop)]
+#[derive(Drop)]
 pub struct Collection {
     alloc: Global,
 }

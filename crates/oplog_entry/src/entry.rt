@@ -1,6 +1,6 @@
 //! An entry of the log as 64 bytes, and back.
 ghost use Rattle.std.specs.Prelude.{◌≡◌, ◌≢◌, ◌<◌, ◌^◌, ◌++◌, ℕ, List, true, Some, None};
-ghost use Rattle.layout_model.specs.Fields.{zeros};
+ghost use Rattle.layout_model.specs.Fields.{is_same, zeros};
 ghost use Rattle.layout_model.specs.Entries.{is_draft, entry_body, encode_entry, decode_entry};
 ghost use Rattle.layout_model.specs.EntryLaws.{FitsDraft, IsEntryLine};
 ghost use Rattle.layout_model.specs.declared.lines.Draft.{Draft};
@@ -62,6 +62,13 @@ pub fn encode(draft: &Draft, seq: u64) -> [u8; 64]
     line
 }
 
+// Whether the line is the spelling of the draft with this sequence number.
+fn is_spelling(bytes: &[u8; 64], draft: &Draft, seq: u64) -> bool
+    ensures { result ≡ is_same bytes.now (encode_entry draft.now seq) }
+{
+    *bytes == encode(draft, seq)
+}
+
 /// The draft that the line stands for with this sequence number; None exactly where it is no entry
 /// with that number.
 #[tactic(auto, unfolding(layout_model::specs::Entries::decode_entry))]
@@ -79,7 +86,7 @@ pub fn decode(bytes: &[u8; 64], seq: u64) -> Option<Draft>
         staging_generation: u32_at(bytes, 44),
         size: u64_at(bytes, 48),
     };
-    if is_draft(&draft) && *bytes == encode(&draft, seq) {
+    if is_draft(&draft) && is_spelling(bytes, &draft, seq) {
         Some(draft)
     } else {
         None

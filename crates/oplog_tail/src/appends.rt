@@ -21,7 +21,7 @@ use oplog_entry::{Full, Mark};
 use pm_lines::{Line, Power};
 
 /// What shows that an entry stands whole and durable in its slot. Only an append makes one.
-#[derive(Clone, Copy, Debug, PartialEq, Eq)]
+#[derive(Clone, Copy)]
 pub struct Receipt {
     slot: u32,
     draft: Draft,
@@ -44,7 +44,7 @@ impl Receipt {
 }
 
 /// What an append answers.
-#[derive(Clone, Copy, Debug, PartialEq, Eq)]
+#[derive(Clone, Copy)]
 pub enum Appended {
     /// The entry stands whole and durable in its slot.
     Done(Receipt),

@@ -12,7 +12,7 @@ use std::alloc::AllocError;
 use std::marker::Model;
 
 /// Bytes that stand in the file of a node from a place on, which is counted in bytes.
-#[derive(Debug, Drop)]
+#[derive(Drop)]
 pub struct Put {
     pub node: usize,
     pub place: u64,

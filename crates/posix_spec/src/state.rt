@@ -22,7 +22,7 @@ pub const LONGEST_NAME: usize = 48;
 
 /// The state of a file system, as plain lists. Contracts see nodes by their numbers, names in one
 /// order, what is open, the shape and the mode.
-#[derive(Debug, Drop)]
+#[derive(Drop)]
 pub struct State {
     pub(crate) nodes: Vec<Node>,
     pub(crate) entries: Vec<DirEntry>,

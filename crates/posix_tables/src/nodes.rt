@@ -6,7 +6,7 @@ use posix_types::{Data, Name};
 use std::alloc::AllocError;
 
 /// A file: its bytes, and its published length in bytes.
-#[derive(Debug, Drop)]
+#[derive(Drop)]
 pub struct File {
     pub bytes: Data,
     pub published: u64,
@@ -25,7 +25,7 @@ impl Clone for File {
 }
 
 /// What a node number stands for. A number whose node went is never used again.
-#[derive(Debug, Drop)]
+#[derive(Drop)]
 pub enum Node {
     Gone,
     Directory,
@@ -45,7 +45,7 @@ impl Clone for Node {
 }
 
 /// A name: the number of its directory, its bytes, and the number of the node that it leads to.
-#[derive(Debug, Drop)]
+#[derive(Drop)]
 pub struct DirEntry {
     pub parent: usize,
     pub name: Name,

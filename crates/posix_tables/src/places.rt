@@ -10,7 +10,7 @@ use posix_types::{Data, Name, Path, TreeEntry, TreeNode};
 use std::alloc::{AllocError, Global};
 
 /// A path, its printed text, and the number of the node that it leads to.
-#[derive(Debug, Drop)]
+#[derive(Drop)]
 pub struct Place {
     pub path: Path,
     pub text: Data,

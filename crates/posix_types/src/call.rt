@@ -23,7 +23,7 @@ pub enum Who {
 
 /// A file call. `Open` has the handle first, `Dup` the old handle before the new one; `Read` and
 /// `Truncate` have a number of bytes; `Pread` and `Pwrite` have the offset second.
-#[derive(Debug, Drop, PartialEq, Eq)]
+#[derive(Drop)]
 pub enum Call {
     Mkdir(Path),
     Rmdir(Path),

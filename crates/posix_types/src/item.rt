@@ -6,7 +6,7 @@ use crate::reply::{Reply, Room};
 use std::alloc::AllocError;
 
 /// What a call gave: its reply and, exactly with ENOSPC, what it needed and what was left.
-#[derive(Debug, Drop, PartialEq, Eq)]
+#[derive(Drop)]
 pub struct Outcome {
     pub reply: Reply,
     pub room: Option<Room>,
@@ -26,7 +26,7 @@ impl Clone for Outcome {
 
 /// A call of a history that returned: who made it, its place among the calls of that script from 0,
 /// the call, its reply, and the room exactly with ENOSPC.
-#[derive(Debug, Drop, PartialEq, Eq)]
+#[derive(Drop)]
 pub struct Item {
     pub who: Who,
     pub index: u32,
@@ -39,8 +39,8 @@ impl Clone for Item {
     ghost is_clone = { λ a b. b ≡ a };
 
     fn clone(&self) -> Result<Item, AllocError> {
-        let call = self.call.clone()?;
         let reply = self.reply.clone()?;
+        let call = self.call.clone()?;
         Ok(Item {
             who: self.who,
             index: self.index,

@@ -84,7 +84,7 @@ impl Eq for Path {
 }
 
 /// The names that `list` answers, in the order of their bytes. Contracts see a list of names.
-#[derive(Debug, Drop)]
+#[derive(Drop)]
 pub struct NameList {
     pub names: Vec<Name>,
 }

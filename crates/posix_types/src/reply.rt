@@ -7,7 +7,7 @@ use std::alloc::AllocError;
 
 /// What a call answers. A descriptor's number, how many bytes a write wrote, the offset that a seek
 /// left in bytes, the bytes of a read, what `stat` and `list` found, or an error.
-#[derive(Debug, Drop, PartialEq, Eq)]
+#[derive(Drop)]
 pub enum Reply {
     Ok,
     Fd(u32),

@@ -6,7 +6,7 @@ use std::alloc::AllocError;
 use std::marker::Model;
 
 /// The calls of one script, in order. Contracts see a list of calls.
-#[derive(Debug, Drop)]
+#[derive(Drop)]
 pub struct CallList {
     pub calls: Vec<Call>,
 }
@@ -31,7 +31,7 @@ impl Clone for CallList {
 
 /// The calls of the set-up, and those of each thread. Contracts see a list of calls, and a list of
 /// such lists.
-#[derive(Debug, Drop)]
+#[derive(Drop)]
 pub struct Scripts {
     pub setup: CallList,
     pub threads: Vec<CallList>,

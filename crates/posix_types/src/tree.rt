@@ -8,7 +8,7 @@ use std::alloc::AllocError;
 use std::marker::Model;
 
 /// What stands at a path: a directory, or a file with its bytes.
-#[derive(Debug, Drop)]
+#[derive(Drop)]
 pub enum TreeNode {
     Directory,
     File(Data),
@@ -53,7 +53,7 @@ impl Eq for TreeNode {
 }
 
 /// A path of a tree, and what stands there.
-#[derive(Debug, Drop)]
+#[derive(Drop)]
 pub struct TreeEntry {
     pub path: Path,
     pub node: TreeNode,
@@ -94,7 +94,7 @@ impl Eq for TreeEntry {
 
 /// All paths of a file system with what stands there, in the byte order of the printed paths, the
 /// root first. Contracts see the list of entries.
-#[derive(Debug, Drop)]
+#[derive(Drop)]
 pub struct Tree {
     pub entries: Vec<TreeEntry>,
 }

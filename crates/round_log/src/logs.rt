@@ -14,7 +14,7 @@ use pm_lines::{Line, Power};
 use std::marker::Model;
 
 /// The log of a round. Contracts see a `RoundView`.
-#[derive(Debug, Drop)]
+#[derive(Drop)]
 pub struct RoundLog {
     lines: Vec<Line>,
     base: u64,

@@ -1,5 +1,5 @@
 //! How a turn is opened: its value goes into the slot of a table, and its passes are dealt.
-ghost use Rattle.std.specs.Prelude.{◌≡◌, ◌<◌, ℕ, [], length, map, IfOk};
+ghost use Rattle.std.specs.Prelude.{◌≡◌, ◌<◌, ◌∷◌, ℕ, [], length, map, IfOk, Some};
 ghost use Rattle.ruled_turn.specs.Passes.{IsPass, outside_pass, passes_with};
 ghost use Rattle.ruled_turn.specs.Standings.{outside};
 
@@ -11,6 +11,18 @@ use crate::views::Opening;
 use atomic_table::Table;
 use std::alloc::{AllocError, Global};
 use std::snapshot::Snapshot;
+
+// The slot of a turn, with its value.
+fn slots_of<T: Drop>(alloc: Global, value: T) -> Result<Vec<Option<T>>, AllocError>
+    ensures { IfOk result (λ slots. slots.items ≡ Some value ∷ []) }
+{
+    let Ok(mut slots) = Vec::with_capacity(alloc, 1) else {
+        drop(value);
+        return Err(AllocError);
+    };
+    slots.push_reserved(Some(value));
+    Ok(slots)
+}
 
 // The pass of a seat that carries one.
 fn pass_of<T, V>(seat: TurnSeat<T, V>) -> Pass<T, V>
@@ -60,13 +72,21 @@ impl<T: Drop, V, P: Protocol<T, V>> Turn<T, V, P> {
             passes,
             value: Snapshot::of(&value),
         };
-        let mut slots = Vec::with_capacity(alloc, 1)?;
-        slots.push_reserved(Some(value));
-        let Ok((table, first)) = Table::new(alloc, &[0], slots, &opening) else {
+        let Ok(slots) = slots_of(alloc, value) else {
+            drop(opening);
             return Err(AllocError);
         };
-        let dealt = deal(alloc, &table.shared, first, passes)?;
-        let turn = Turn { table };
-        Ok((turn, dealt))
+        let made = Table::new(alloc, &[0], slots, &opening);
+        drop(opening);
+        let Ok((table, first)) = made else {
+            return Err(AllocError);
+        };
+        match deal(alloc, &table.shared, first, passes) {
+            Ok(dealt) => Ok((Turn { table }, dealt)),
+            Err(error) => {
+                drop(table);
+                Err(error)
+            }
+        }
     }
 }

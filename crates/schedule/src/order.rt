@@ -1,7 +1,7 @@
 //! Orders of threads.
 
 /// In which order threads are picked, of those that can run.
-#[derive(Debug, Drop)]
+#[derive(Drop)]
 pub enum Order {
     /// By these numbers of threads, one after another; one that cannot run is passed over. Behind the list it goes
     /// round.

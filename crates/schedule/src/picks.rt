@@ -11,7 +11,7 @@ use rand_core::utils::NextWord;
 use rand_xoshiro::SplitMix64;
 
 /// What an order takes its picks from.
-#[derive(Debug, Drop)]
+#[derive(Drop)]
 pub enum Source {
     List(Vec<u64>),
     Seed(SplitMix64),
@@ -20,7 +20,7 @@ pub enum Source {
 
 /// An order, with how far it came: how many numbers of its list were used or passed over, and the thread that was
 /// picked last.
-#[derive(Debug, Drop)]
+#[derive(Drop)]
 pub struct Picker {
     source: Source,
     place: usize,

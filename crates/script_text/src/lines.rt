@@ -34,11 +34,18 @@ pub(crate) fn split_line(bytes: &[u8]) -> (&[u8], &[u8])
     }
 }
 
-/// Whether all bytes are from 32 to 126.
+/// Whether a byte is from 32 to 126.
+fn is_text_byte(byte: u8) -> bool
+    ensures { result ≡ is_text_byte byte }
+{
+    32 <= byte && byte <= 126
+}
+
+/// Whether all bytes are.
 fn are_text_bytes(text: &[u8]) -> bool
     ensures { result ≡ list_all is_text_byte text.now }
 {
-    text.iter().all(|byte| 32 <= *byte && *byte <= 126)
+    text.iter().all(|byte| is_text_byte(*byte))
 }
 
 /// Whether a line's text has bytes 32 to 126 alone, and not too many.

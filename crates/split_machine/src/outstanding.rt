@@ -14,7 +14,7 @@ use std::alloc::{AllocError, Global};
 
 /// The log of the round, if one goes on, and the logged calls that have not finished, in the order of their
 /// beginning.
-#[derive(Debug, Drop)]
+#[derive(Drop)]
 pub(crate) struct Out {
     pub(crate) log: Option<RoundLog>,
     pub(crate) jobs: Vec<Held>,
@@ -22,7 +22,7 @@ pub(crate) struct Out {
 
 /// How an event ended: it is done; a call found too little space, so that the round is over, which is no event; or the
 /// power went.
-#[derive(Clone, Copy, Debug, PartialEq, Eq)]
+#[derive(Clone, Copy)]
 pub(crate) enum Acted {
     Event,
     RoundOver,

@@ -20,7 +20,7 @@ use split_world::{Ended, World};
 use std::alloc::Global;
 
 /// How the events of a run end: all calls have returned; the cut is reached; or the power went.
-#[derive(Clone, Copy, Debug, PartialEq, Eq)]
+#[derive(Clone, Copy)]
 pub(crate) enum End {
     All,
     Cut,

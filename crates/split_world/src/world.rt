@@ -12,7 +12,7 @@ use world_begins::Parts;
 
 /// A file system with its scripts and the history of their calls since it was mounted. Contracts see a
 /// `WorldView`.
-#[derive(Debug, Drop)]
+#[derive(Drop)]
 pub struct World {
     pub(crate) parts: Parts,
 }

@@ -8,7 +8,7 @@ use std::alloc::Global;
 use std::marker::Model;
 
 /// The runs that are out, and how many blocks each staging file was given. Contracts see a `Staged`.
-#[derive(Debug, Drop)]
+#[derive(Drop)]
 pub struct Staging {
     pub(crate) out: Vec<StageRun>,
     pub(crate) given: [u32; 4],

@@ -1,9 +1,9 @@
 //! Threads that append to a log at once, and that take turns at a list.
 //!
-//! Logs of lines of zeros are filled and closed, and the lines and what the appends answered are looked at: two lines and four
-//! appends of one seat; one line and an append at each number of device steps; 1,024 lines and eight threads with 200 drafts
-//! each. A turn is taken by two passes once each, and by eight threads a thousand times each: `entries` is an example of a
-//! protocol, by which each entry stands in the list as often as passes appended it.
+//! Logs of lines of zeros are filled and closed, and the lines and what the appends answered are looked at: one line and an
+//! append at each number of device steps; 1,024 lines and eight threads with 200 drafts each. A turn is taken by eight threads
+//! a thousand times each: `entries` is an example of a protocol, by which each entry stands in the list as often as passes
+//! appended it.
 //!
 //! What is proved is that each call may be made, and that the entries keep their protocol; the rest is shown alone. Stands on
 //! `oplog_tail` and `ruled_turn`.
@@ -20,7 +20,5 @@ mod lost;
 mod threads;
 #[cfg(test)]
 mod turns;
-#[cfg(test)]
-mod two_lines;
 
 pub use entries::{Appends, EntryPass, EntryTurn, Own};

@@ -1,4 +1,4 @@
-//! Turns that passes enter, one after another and in threads of their own.
+//! A turn that passes enter in threads of their own.
 ghost use Rattle.std.specs.Prelude.{◌≡◌, ◌≤◌, ◌<◌, ℕ, [], All, length, slice_index_or, None};
 ghost use Rattle.ruled_turn.specs.Passes.{outside_pass};
 ghost use Rattle.thread_rows.specs.Entries.{own};
@@ -15,15 +15,6 @@ use std::thread::Threads;
 const ENTRIES: u64 = 1_000;
 
 const THREADS: u32 = 8;
-
-// Two passes enter once each, in their order: the list has both numbers.
-fn two_passes<R: Wait>(rt: &R, alloc: Global) -> Result<bool, AllocError> {
-    let (turn, mut passes) = EntryTurn::open(alloc, Vec::new(alloc), 2)?;
-    append_all(rt, &turn, &mut passes[0], 0, 0, 1);
-    append_all(rt, &turn, &mut passes[1], 1, 1, 1);
-    let list = turn.close(passes);
-    Ok(list.as_slice() == [0, 1].as_slice())
-}
 
 // Each thread appends numbers of its own.
 fn append_at_once<R: Threads + Wait + Sync>(rt: &R, turn: &EntryTurn, passes: &mut [EntryPass])
@@ -67,12 +58,6 @@ fn eight_threads<R: Threads + Wait + Sync>(rt: &R, alloc: Global) -> Result<bool
     append_at_once(rt, &turn, passes.as_mut_slice());
     let list = turn.close(passes);
     has_each_once(alloc, list.as_slice(), 8_000)
-}
-
-#[test]
-fn two_passes_enter_once_each(rt: HostRuntime) -> Result<(), Fail> {
-    assert!(rt; two_passes(&rt, rt.alloc())?);
-    Ok(())
 }
 
 #[test]

@@ -4,7 +4,7 @@ use posix_types::{Call, Item, Who};
 use world_view_laws::{Job, Over};
 
 /// How a call began.
-#[derive(Debug, Drop)]
+#[derive(Drop)]
 pub enum Begun {
     /// It returned: its item stands at the end of the history.
     Done,
@@ -21,7 +21,7 @@ pub enum Begun {
 }
 
 /// Whether a caller can begin its next call.
-#[derive(Clone, Copy, Debug, PartialEq, Eq)]
+#[derive(Clone, Copy)]
 pub enum Ready {
     Yes,
     /// It waits for a job of this caller, of the file with this inode.
@@ -33,7 +33,7 @@ pub enum Ready {
 }
 
 /// How a job finished.
-#[derive(Clone, Copy, Debug, PartialEq, Eq)]
+#[derive(Clone, Copy)]
 pub enum Finished {
     /// It returned: its item stands at the end of the history.
     Done,
@@ -42,7 +42,7 @@ pub enum Finished {
 }
 
 /// A call that lost its power in `begin`, with its caller.
-#[derive(Debug, Drop)]
+#[derive(Drop)]
 pub struct Unfinished {
     pub who: Who,
     pub call: Call,
@@ -50,7 +50,7 @@ pub struct Unfinished {
 
 /// What a power loss leaves: the device, the calls that returned, and those that had begun and did not, in the
 /// order of their beginning.
-#[derive(Debug, Drop)]
+#[derive(Drop)]
 pub struct Crashed {
     pub pm: Pm,
     pub history: Vec<Item>,
@@ -58,7 +58,7 @@ pub struct Crashed {
 }
 
 /// How a run ends: whole, with the device and the calls that returned, or by a power loss.
-#[derive(Debug, Drop)]
+#[derive(Drop)]
 pub enum Ended {
     Whole { pm: Pm, history: Vec<Item> },
     Lost(Crashed),

@@ -15,7 +15,7 @@ use world_view_laws::{
 };
 
 /// All that a World keeps. Between its calls it is `IsKept`, while it is usable.
-#[derive(Debug, Drop)]
+#[derive(Drop)]
 pub struct Parts {
     /// The volume on its device.
     pub k: KSplit,

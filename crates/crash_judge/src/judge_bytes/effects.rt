@@ -18,7 +18,7 @@ pub struct Cut {
 }
 
 /// What a call did to bytes: what it put, and by which bytes each node was shortened.
-#[derive(Debug, Drop)]
+#[derive(Drop)]
 pub struct Effect {
     pub put: Option<Put>,
     pub cuts: Vec<Cut>,
@@ -149,6 +149,22 @@ fn effect_on(alloc: Global, at: &mut State, c: &(Who, Call)) -> Result<Effect, A
     effect
 }
 
+/// The effects of calls, one after the other, from a state on, which becomes the one after them.
+fn effects_from(
+    alloc: Global,
+    at: &mut State,
+    calls: &[(Who, Call)],
+) -> Result<Vec<Effect>, AllocError>
+    ensures { IfOk result (λ effects. AreEffects at.old calls.now effects.items) }
+{
+    let mut effects = Vec::new(alloc);
+    for c in calls {
+        let effect = effect_on(alloc, at, c)?;
+        effects.push(effect)?;
+    }
+    Ok(effects)
+}
+
 /// The effects of calls, one after the other, from a state on.
 pub fn effects_of(
     alloc: Global,
@@ -157,13 +173,17 @@ pub fn effects_of(
 ) -> Result<Vec<Effect>, AllocError>
     ensures { IfOk result (λ effects. AreEffects state.now calls.now effects.items) }
 {
-    let mut effects = Vec::new(alloc);
     let mut at = state.clone()?;
-    for c in calls {
-        let effect = effect_on(alloc, &mut at, c)?;
-        effects.push(effect)?;
-    }
-    Ok(effects)
+    effects_from(alloc, &mut at, calls)
+}
+
+/// Adds the call of an item.
+fn add_begun(calls: &mut Vec<(Who, Call)>, item: &Item) -> Result<(), AllocError>
+    ensures { OnOk result (calls.new.items ≡ calls.old.items ++ begun item.now ∷ []) }
+{
+    let call = item.call.clone()?;
+    calls.push((item.who, call))?;
+    Ok(())
 }
 
 /// The calls of a history.
@@ -172,7 +192,7 @@ pub fn calls_of(alloc: Global, items: &[Item]) -> Result<Vec<(Who, Call)>, Alloc
 {
     let mut calls = Vec::new(alloc);
     for item in items {
-        calls.push((item.who, item.call.clone()?))?;
+        add_begun(&mut calls, item)?;
     }
     Ok(calls)
 }

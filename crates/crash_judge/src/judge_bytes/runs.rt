@@ -1,5 +1,5 @@
 //! The state after calls, and whether it has a tree.
-ghost use Rattle.std.specs.Prelude.{◌≡◌, ◌↔◌, IfOk, IsTrue};
+ghost use Rattle.std.specs.Prelude.{◌≡◌, ◌↔◌, IfOk, IsTrue, OnOk};
 ghost use Rattle.crash_spec.specs.posix_spec.Run.{after_call, after_calls, run};
 ghost use Rattle.crash_spec.specs.posix_spec.Step.{step};
 ghost use Rattle.crash_spec.specs.posix_spec.Tree.{tree};
@@ -7,13 +7,21 @@ ghost use Rattle.crash_spec.specs.posix_spec.Tree.{tree};
 use crash_spec::{Call, Item, State, Tree, Who};
 use std::alloc::AllocError;
 
-/// The state after the calls of a history.
-pub fn run(mut state: State, history: &[Item]) -> Result<State, AllocError>
-    ensures { IfOk result (λ s. s ≡ run state history.now) }
+/// Makes the calls of a history.
+fn run_on(state: &mut State, history: &[Item]) -> Result<(), AllocError>
+    ensures { OnOk result (state.new ≡ run state.old history.now) }
 {
     for item in history {
         state.apply(item.who, &item.call)?;
     }
+    Ok(())
+}
+
+/// The state after the calls of a history.
+pub fn run(mut state: State, history: &[Item]) -> Result<State, AllocError>
+    ensures { IfOk result (λ s. s ≡ run state history.now) }
+{
+    run_on(&mut state, history)?;
     Ok(state)
 }
 
@@ -43,13 +51,21 @@ pub fn has_tree(state: &State, left: &Tree) -> Result<bool, AllocError>
     Ok(*left == found)
 }
 
+/// Makes calls, one after the other.
+fn go_on(at: &mut State, calls: &[(Who, Call)]) -> Result<(), AllocError>
+    ensures { OnOk result (at.new ≡ after_calls at.old calls.now) }
+{
+    for c in calls {
+        at.apply(c.0, &c.1)?;
+    }
+    Ok(())
+}
+
 /// The state after calls, one after the other.
 pub fn after_all(state: &State, calls: &[(Who, Call)]) -> Result<State, AllocError>
     ensures { IfOk result (λ s. s ≡ after_calls state.now calls.now) }
 {
     let mut at = state.clone()?;
-    for c in calls {
-        at.apply(c.0, &c.1)?;
-    }
+    go_on(&mut at, calls)?;
     Ok(at)
 }

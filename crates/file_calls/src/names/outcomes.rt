@@ -8,7 +8,7 @@ use posix_types::{Errno, Outcome, Reply};
 use std::alloc::AllocError;
 
 /// Whether a call was answered, or the power went in it.
-#[derive(Debug, Drop, PartialEq, Eq)]
+#[derive(Drop)]
 pub enum Told {
     Answered(Outcome),
     PowerLost,

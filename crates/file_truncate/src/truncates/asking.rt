@@ -7,7 +7,7 @@ use posix_types::Outcome;
 use zero_fill::truncate_row;
 
 /// How it goes.
-#[derive(Debug, Drop)]
+#[derive(Drop)]
 pub(crate) enum Asked {
     /// A row fits, which answers it.
     Answered(Outcome),

@@ -2,7 +2,7 @@
 use posix_types::Outcome;
 
 /// How a `truncate` went.
-#[derive(Debug, Drop, PartialEq, Eq)]
+#[derive(Drop)]
 pub enum Truncated {
     /// It was answered: it is done, or a row refused it.
     Answered(Outcome),

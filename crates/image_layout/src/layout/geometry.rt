@@ -1,5 +1,5 @@
 //! The numbers of an image, and the places of its lines and regions.
-ghost use Rattle.std.specs.Prelude.{◌≡◌, ◌<◌, ◌≤◌, ◌↔◌, IsSome, IfSome};
+ghost use Rattle.std.specs.Prelude.{◌≡◌, ◌+◌, ◌<◌, ◌≤◌, ◌↔◌, IsSome, IfSome, nat_le};
 ghost use Rattle.block_counts.specs.Counts.{reserve_for};
 ghost use Rattle.layout_model.specs.PlaceLaws.{AreApart};
 ghost use Rattle.layout_model.specs.Places.{Geometry, IsGeometry, blocks_of_lines, data_blocks, first_data, name_block, log_block, nodes, state_line, record_line, inode_line, name_line, log_line};
@@ -71,6 +71,14 @@ fn blocks_of_lines(lines: u32) -> u32
     lines.div_ceil(64)
 }
 
+// Whether the data blocks from `first_data` on are enough.
+fn is_room_left(blocks: u32, first_data: u32) -> bool
+    requires { first_data ≤ 1024 }
+    ensures { result ≡ nat_le (first_data + 32) blocks }
+{
+    first_data + LEAST_DATA_BLOCKS <= blocks
+}
+
 impl Geometry {
     /// The geometry of the default image: 256 blocks, 64 log lines, 64 inode lines, 128 name lines.
     pub fn default_image() -> Geometry
@@ -102,7 +110,7 @@ impl Geometry {
             + blocks_of_lines(inodes)
             + blocks_of_lines(names)
             + blocks_of_lines(log);
-        if blocks < first_data + LEAST_DATA_BLOCKS {
+        if !is_room_left(blocks, first_data) {
             return None;
         }
         Some(Geometry {

@@ -11,7 +11,7 @@ use std::marker::Model;
 
 /// A job that is out: its caller and call, its entry, and the disk blocks that it was lent, in the order of the
 /// entry's blocks.
-#[derive(Debug, Drop)]
+#[derive(Drop)]
 pub struct JobOut {
     pub who: Who,
     pub call: Call,

@@ -6,7 +6,7 @@ ghost use Rattle.in_flight.specs.Counters.{count_for, AreCounts, IsCounted};
 use posix_types::Who;
 
 /// How many calls of each caller have returned: of the set-up, and of 8 threads.
-#[derive(Clone, Copy, Debug)]
+#[derive(Clone, Copy)]
 pub struct Counters {
     pub setup: u32,
     pub threads: [u32; 8],

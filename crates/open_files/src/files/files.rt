@@ -22,7 +22,7 @@ use std::marker::Model;
 
 /// What is open: descriptions, each with its number, 64 descriptors for all callers together, and
 /// the handles of each caller. Contracts see the tables and whether there is room for one more.
-#[derive(Debug, Drop)]
+#[derive(Drop)]
 pub struct OpenFiles {
     kept: Slab<Kept>,
     ever_opened: u64,

@@ -12,7 +12,7 @@ use posix_types::{Handle, Who};
 use slab::Slab;
 
 /// What a handle stands for: its binding, what the descriptor refers to, and what is kept of that.
-#[derive(Clone, Copy, Debug, PartialEq, Eq, Drop)]
+#[derive(Clone, Copy)]
 pub struct Found {
     pub binding: Binding,
     pub reference: Reference,

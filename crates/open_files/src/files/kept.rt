@@ -3,7 +3,7 @@ use posix_types::Flags;
 
 /// An open description: its number, which no other ever has, its inode, its offset in bytes, and
 /// how it was opened.
-#[derive(Clone, Copy, Debug, PartialEq, Eq, Drop)]
+#[derive(Clone, Copy)]
 pub struct Kept {
     pub number: u64,
     pub ino: u32,
@@ -12,7 +12,7 @@ pub struct Kept {
 }
 
 /// What a descriptor refers to: a description by its number, and the slab key under which it is.
-#[derive(Clone, Copy, Debug, PartialEq, Eq, Drop)]
+#[derive(Clone, Copy)]
 pub struct Reference {
     pub number: u64,
     pub key: usize,

@@ -3,7 +3,7 @@ use posix_types::Flags;
 
 /// An open description, as a handle stands for it: the key of its offset for `set_offset`, until the
 /// handle is closed; its inode, its offset in bytes, and how it was opened.
-#[derive(Clone, Copy, Debug, PartialEq, Eq, Drop)]
+#[derive(Clone, Copy)]
 pub struct Opened {
     pub key: usize,
     pub ino: u32,

@@ -97,7 +97,10 @@ fn begin_free(
 {
     match make_room(p) {
         Ok(()) => begin_call(p, alloc, who, call, power),
-        Err(error) => Err(error),
+        Err(error) => {
+            drop(call);
+            Err(error)
+        }
     }
 }
 
@@ -122,9 +125,15 @@ fn begin_on(
     ensures begun { IsBegun who (seen p.old) (seen p.new) power.old power.new result }
 {
     match p.over {
-        Some(over) => Ok(Begun::RoundOver(over)),
+        Some(over) => {
+            drop(call);
+            Ok(Begun::RoundOver(over))
+        }
         None => match busy_on(p, who, &call) {
-            Some((ino, holder)) => Ok(Begun::Busy { ino, holder }),
+            Some((ino, holder)) => {
+                drop(call);
+                Ok(Begun::Busy { ino, holder })
+            }
             None => begin_free(p, alloc, who, call, power),
         },
     }

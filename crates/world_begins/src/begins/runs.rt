@@ -55,7 +55,8 @@ fn run_truncate(
     ensures begun { IsBegunNow who (seen p.old) (seen p.new) power.old power.new result }
 {
     laws::jobs_need_what_their_calls_do();
-    let needs = needs_now(p, who, &Call::Truncate(handle, size));
+    let call = Call::Truncate(handle, size);
+    let needs = needs_now(p, who, &call);
     match truncate_file(
         alloc,
         &mut p.k,
@@ -68,15 +69,16 @@ fn run_truncate(
         power,
     ) {
         Ok(Truncated::Answered(outcome)) => {
-            add(p, who, Call::Truncate(handle, size), outcome);
+            add(p, who, call, outcome);
             Ok(Begun::Done)
         }
         Ok(Truncated::RoundOver { .. }) => unreachable!(),
         Ok(Truncated::PowerLost) => {
-            lose_call(p, who, Call::Truncate(handle, size));
+            lose_call(p, who, call);
             Ok(Begun::PowerLost)
         }
         Err(error) => {
+            drop(call);
             p.usable = false;
             Err(error)
         }
@@ -136,6 +138,7 @@ fn run_other(
             Ok(Begun::PowerLost)
         }
         Err(error) => {
+            drop(call);
             p.usable = false;
             Err(error)
         }
@@ -184,6 +187,7 @@ pub(crate) fn run_whole(
     ensures begun { IsBegun who (seen p.old) (seen p.new) power.old power.new result }
 {
     if let Some((need, room)) = room_lacks(p, who, &call) {
+        drop(call);
         end_round(p, need, room);
         return Ok(Begun::RoundOver(Over::Space { need, room }));
     }

@@ -76,6 +76,7 @@ pub fn publish_first(
             Ok(None)
         }
         Err(_) => {
+            drop(call);
             p.usable = false;
             Err(NoMemory {})
         }

@@ -118,6 +118,7 @@ pub fn begin_put(
             Ok(Begun::Job(job))
         }
         Ok(WriteBegun::RoundOver { need, room }) => {
+            drop(call);
             end_round(p, need, room);
             Ok(Begun::RoundOver(Over::Space { need, room }))
         }
@@ -126,6 +127,7 @@ pub fn begin_put(
             Ok(Begun::PowerLost)
         }
         Err(_) => {
+            drop(call);
             p.usable = false;
             Err(NoMemory {})
         }

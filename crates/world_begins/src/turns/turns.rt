@@ -40,7 +40,7 @@ pub fn lose_call(p: &mut Parts, who: Who, call: Call)
       lost = true;
     } }
 {
-    p.unfinished = Some(Unfinished { who, call });
+    drop(p.unfinished.replace(Unfinished { who, call }));
     p.acts += 1;
     p.lost = true;
 }

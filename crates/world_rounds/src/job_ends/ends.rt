@@ -88,7 +88,8 @@ pub fn give_up_on(p: &mut Parts, job: FilledJob, full: Full)
     ensures given { (q : standing.JobOut) → IsFilledOut (seen p.old) q job
         → GivesUp full q (seen p.old) (seen p.new) }
 {
-    let _job = take_job(&mut p.pending, job.who());
+    let taken = take_job(&mut p.pending, job.who());
+    drop(taken);
     give_up_write(&mut p.k, &mut p.staging, job);
     p.over = Some(ended_by(p.over, full));
     p.given_up += 1;
@@ -105,7 +106,8 @@ pub fn give_up_off(p: &mut Parts, job: FilledJob, full: Full)
     ensures given { (q : standing.JobOut) → IsFilledOut (seen p.old) q job
         → GivesUp full q (seen p.old) (seen p.new) }
 {
-    let _job = take_job(&mut p.pending, job.who());
+    let taken = take_job(&mut p.pending, job.who());
+    drop(taken);
     settle_blocks(&mut p.k, job.into_loans());
     let ended = ended_by(p.over, full);
     p.over = Some(ended);

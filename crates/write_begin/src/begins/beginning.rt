@@ -16,7 +16,7 @@ use std::alloc::{AllocError, Global};
 use write_plan::{FileTable, Job};
 
 /// How a write began.
-#[derive(Debug, Drop)]
+#[derive(Drop)]
 pub enum WriteBegun {
     /// It returned, with this outcome.
     Answered(Outcome),

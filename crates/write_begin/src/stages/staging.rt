@@ -12,7 +12,7 @@ use write_jobs::{Job, KSplit, lend_blocks};
 use write_plan::{Target, draft_of, words_of_write};
 
 /// A write that is staged: its job, and the disk blocks that it was lent, in the order of the entry's blocks.
-#[derive(Debug, Drop)]
+#[derive(Drop)]
 pub struct StagedWrite {
     pub job: Job,
     pub blocks: Vec<u32>,

@@ -8,7 +8,7 @@ use crate::jobs::jobs::{FilledJob, Job};
 use pm_lines::{Loan, Power};
 
 /// Whether all blocks of a job are durable, or the power went.
-#[derive(Debug, Drop)]
+#[derive(Drop)]
 pub enum Filled {
     Ready(FilledJob),
     PowerLost(Job),

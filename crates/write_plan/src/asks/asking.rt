@@ -14,7 +14,7 @@ use posix_types::{Errno, Handle, Mode, Outcome, Reply, Who};
 
 /// Where the bytes of a write go: its file, the place of its first byte, and the size of the file by what
 /// is staged.
-#[derive(Clone, Copy, Debug)]
+#[derive(Clone, Copy)]
 pub struct Target {
     /// The inode.
     pub ino: u32,
@@ -25,7 +25,7 @@ pub struct Target {
 }
 
 /// How a write goes.
-#[derive(Debug, Drop)]
+#[derive(Drop)]
 pub enum Asked {
     /// A row fits, which answers it.
     Answered(Outcome),

@@ -1,4 +1,4 @@
-use Rattle.std.proofs.Common.{◌≡◌, ◌+◌, ◌*◌, ℕ, List, ap, sym, ◌∙◌, subst}
+use Rattle.std.proofs.Common.{◌≡◌, ◌+◌, ◌*◌, ℕ, List, ap, sym, ◌∙◌, subst, rules}
 use Rattle.std.proofs.lemmas.Bool.{both_ways}
 use Rattle.pm_lines.specs.Choices.{chosen}
 use Rattle.oplog_entry.specs.pm_model.Words.{word_at}
@@ -29,3 +29,6 @@ loop-slot-preserved c =
           (crash-kept g c.args.choice d c.loop-slot.slot f c.loop-slot.invariant
           (λ chance. both_ways c.is_chance.result w.if-is_chance.false (c.is_chance.ensures.1 (subst (IsChance c.args.choice d) (sym line) chance))))
     ]
+
+pub loop-slot-init : goal.loop-slot-init
+loop-slot-init c = search rules

@@ -1,4 +1,4 @@
-use Rattle.std.proofs.Common.{◌≡◌, ◌≢◌, ◌+◌, ◌%◌, sym, ◌∙◌, ap, arith, ⊎_elim}
+use Rattle.std.proofs.Common.{◌≡◌, ◌≢◌, ◌+◌, ◌%◌, sym, ◌∙◌, ap, arith, ⊎_elim, rules}
 use Rattle.std.proofs.lemmas.Bool.{cases_eq}
 use Rattle.std.proofs.lemmas.Grind.{common_steps}
 use Rattle.image_model.specs.Chains.{chain_word}
@@ -28,3 +28,12 @@ loop-k-preserved c =
           ∙ c.loop-k.invariant.done (c.write_block.ensures.steps.on_before on) m i (omega arith) at)
           (cases_eq m k);
     }
+
+pub returns-clause-others : goal.returns-clause-others
+returns-clause-others c = search rules
+
+pub returns-clause-ended : goal.returns-clause-ended
+returns-clause-ended c = search rules
+
+pub returns-clause-done : goal.returns-clause-done
+returns-clause-done c = search rules

@@ -1,4 +1,4 @@
-use Rattle.std.proofs.Common.{◌≡◌, ◌-◌, ◌+◌, ◌<◌, length, sym, ◌∙◌, arith}
+use Rattle.std.proofs.Common.{◌≡◌, ◌-◌, ◌+◌, ◌<◌, length, sym, ◌∙◌, arith, rules}
 use Rattle.pm_lines.proofs.WordCells.{DropsPair-linked, DropsPair-fenced, fenced-none_marked}
 use Rattle.pm_lines.proofs.words.fence_pairs.Goals as goal
 
@@ -21,3 +21,6 @@ pub returns-clause-cells : goal.returns-clause-cells
 returns-clause-cells c i =
     let none : c.loop-left.left ≡ 0 = omega (arith, c.loop-left-test.false) in
     sym (fenced-none_marked c.loop-left.values.items c.loop-left.pairs.items i c.loop-left.invariant.linked) ∙ rw none at (c.loop-left.invariant.cells i)
+
+pub loop-left-init : goal.loop-left-init
+loop-left-init c = search rules

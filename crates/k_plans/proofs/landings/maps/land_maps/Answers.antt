@@ -1,5 +1,6 @@
+use Rattle.std.proofs.lemmas.Grind.{common_steps}
 -- the write of the maps, and then a commit
-use Rattle.std.proofs.Common.{◌≡◌, true}
+use Rattle.std.proofs.Common.{◌≡◌, true, rules, arith}
 use Rattle.k_inodes.specs.pm_model.Powers.{is_on}
 use Rattle.k_plans.specs.WrittenLaws.{outside-each, may-commit-written, each_image-landed, stands-landed, same_elsewhere, settles_elsewhere, took-later, unused-apart}
 use Rattle.k_plans.proofs.landings.maps.land_maps.Goals as goal
@@ -39,3 +40,30 @@ returns-clause-done c done v w stands unused turns =
 pub returns-clause-took : goal.returns-clause-took
 returns-clause-took c done some =
     took-later _ c.args.power.now c.write_all.new.power c.commit.new.power c.write_all.ensures.steps (c.commit.ensures.took done some)
+
+pub returns-clause-size : goal.returns-clause-size
+returns-clause-size c = cc
+
+pub returns-clause-lent : goal.returns-clause-lent
+returns-clause-lent c = search rules
+
+pub returns-clause-steps : goal.returns-clause-steps
+returns-clause-steps c = grind (arith, common_steps)
+
+pub returns-clause-on : goal.returns-clause-on
+returns-clause-on c = search rules
+
+pub returns-clause-lost : goal.returns-clause-lost
+returns-clause-lost c = search rules
+
+pub returns-clause-off : goal.returns-clause-off
+returns-clause-off c = search rules
+
+pub returns-clause-keeps : goal.returns-clause-keeps
+returns-clause-keeps c = search rules
+
+pub returns-clause-empty : goal.returns-clause-empty
+returns-clause-empty c = search rules
+
+pub returns-clause-kept : goal.returns-clause-kept
+returns-clause-kept c = search rules

@@ -17,17 +17,17 @@ pub settle_blocks-requires-clause-apart : goal.settle_blocks-requires-clause-apa
 settle_blocks-requires-clause-apart c =
     subst AreApart (sym c.into_loans.ensures.loans) (loans_apart_now c.args.p.now c.requires.kept c.requires.gone c.requires.out c.requires.job.0 c.args.job c.requires.job.1)
 
-pub take_job-job-requires : goal.take_job-job-requires
-take_job-job-requires c = callers_now c.args.p.now c.requires.kept c.requires.gone c.requires.out c.requires.job.0 c.args.job c.requires.job.1
+pub take_job-taken-requires : goal.take_job-taken-requires
+take_job-taken-requires c = callers_now c.args.p.now c.requires.kept c.requires.gone c.requires.out c.requires.job.0 c.args.job c.requires.job.1
 
 pub returns-clause-kept : goal.returns-clause-kept
 returns-clause-kept c =
     give_kept c.args.p.now c.requires.kept c.requires.gone c.requires.out c.requires.job.0 c.args.job c.requires.job.1 c.settle_blocks.new.k c.into_loans.ensures.holds
     (subst (λ (loans : List Part). ComeBack loans c.args.p.now.k.cells c.settle_blocks.new.k.cells) c.into_loans.ensures.loans c.settle_blocks.ensures.back)
-    c.args.full c.ended_by-ended.result c.ended_by-ended.ensures c.take_job-job.new.pending (c.take_job-job.ensures.left ∙ ap (λ (w : Who). without w c.args.p.now.pending.items) c.who.ensures)
+    c.args.full c.ended_by-ended.result c.ended_by-ended.ensures c.take_job-taken.new.pending (c.take_job-taken.ensures.left ∙ ap (λ (w : Who). without w c.args.p.now.pending.items) c.who.ensures)
 
 pub returns-clause-given : goal.returns-clause-given
 returns-clause-given c q is =
     give_so c.args.p.now c.requires.kept c.requires.gone c.requires.out q c.args.job is c.settle_blocks.new.k c.into_loans.ensures.holds
     (subst (λ (loans : List Part). ComeBack loans c.args.p.now.k.cells c.settle_blocks.new.k.cells) c.into_loans.ensures.loans c.settle_blocks.ensures.back)
-    c.args.full c.ended_by-ended.result c.ended_by-ended.ensures c.take_job-job.new.pending (c.take_job-job.ensures.left ∙ ap (λ (w : Who). without w c.args.p.now.pending.items) c.who.ensures)
+    c.args.full c.ended_by-ended.result c.ended_by-ended.ensures c.take_job-taken.new.pending (c.take_job-taken.ensures.left ∙ ap (λ (w : Who). without w c.args.p.now.pending.items) c.who.ensures)

@@ -1,3 +1,4 @@
+use Rattle.std.proofs.lemmas.Grind.{common_steps}
 use Rattle.std.proofs.Common.{◌≡◌, ◌∙◌, [], ap, arith, true, refl, subst, sym}
 use Rattle.std.proofs.lemmas.List.{get_or_default}
 use Rattle.std.specs.Prelude.{None, Some}
@@ -76,3 +77,9 @@ returns-clause-plan c =
     (c.put_over_directory.ensures.turns v (ap (λ (x : Inode). x.root) (gone_is c) ∙ sym none.root) (ap (λ (x : Inode). x.extents) (gone_is c) ∙ sym none.extents)))
     c.put_over_directory.ensures.some (omega (arith, c.put_over_directory.ensures.most))
     (λ ino least few. refl) (whole_after c)
+
+pub returns-clause-renamed : goal.returns-clause-renamed
+returns-clause-renamed c = grind (arith, common_steps)
+
+pub put_over_directory-requires-clause-ino : goal.put_over_directory-requires-clause-ino
+put_over_directory-requires-clause-ino c = grind (arith, common_steps)

@@ -1,6 +1,0 @@
-use Rattle.std.proofs.Common.{◌≡◌, drop}
-use Rattle.crash_spec.specs.posix_spec.Run.{after_calls}
-use Rattle.crash_judge.proofs.judge_bytes.runs.after_all.Given as goal
-
-abbrev pub invariant-loop-c : goal.invariant-loop-c
-invariant-loop-c l = after_calls l.at (drop l.c-index l.calls) ≡ after_calls l.state l.calls

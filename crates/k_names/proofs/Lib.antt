@@ -1,2 +1,5 @@
 pub mod Climbs
 pub mod HeightLaws
+pub mod IndexLaws
+pub mod KeyedLaws
+pub mod PairLaws

@@ -10,12 +10,17 @@
 //! lowest free line, the children of a directory in the order of their bytes), and, where no path
 //! of names leads back, on the walks up and down.
 //!
+//! Beside the lines it keeps three sorted lists of words that are halved (`LineIndex`), which no
+//! clause shows: `find`, `free_line`, a step of `below` and a name of `children` cost the logarithm
+//! of the lines; a line that changes moves words, and takes no memory.
+//!
 //! `below` and `height` ask that no path leads back to its start (`IsAcyclic`).
 //!
 //! Stands on `posix_types`, `layout_model` and `image_layout`.
 #![tactic(auto)]
 
 mod children;
+mod index;
 mod line;
 mod rows;
 mod table;

@@ -8,6 +8,7 @@ ghost use Rattle.layout_model.specs.Tables.{IsKeyed, IsAcyclic, names_below};
 ghost use Rattle.k_names.specs.Finding.{IsRow};
 
 use crate::children::sorted_children;
+use crate::index::LineIndex;
 use crate::line::NameLine;
 use crate::{rows, walks};
 use posix_types::Name;
@@ -19,19 +20,25 @@ use std::marker::Model;
 #[derive(Debug, Drop)]
 pub struct NameTable {
     lines: Vec<Option<NameLine>>,
+    // The lines by their names, by the directories that they are in, and by what they stand for.
+    by_name: LineIndex,
+    by_parent: LineIndex,
+    by_child: LineIndex,
 }
 
 impl Model for NameTable {
     ghost use Rattle.std.specs.Prelude.{◌<◌, ◌^◌, length};
     ghost use Rattle.layout_model.specs.Names.{Rows};
     ghost use Rattle.layout_model.specs.Tables.{IsKeyed};
+    ghost use Rattle.k_names.specs.Indexes.{AreIndexes};
 
     ghost Value = { Rows };
 
     ghost view = { λ table. table.lines.items };
 
     ghost invariant = { λ table.
-        IsKeyed table.lines.items × (length table.lines.items < 2 ^ 32) };
+        IsKeyed table.lines.items × (length table.lines.items < 2 ^ 32)
+        × AreIndexes table.lines.items table.by_name table.by_parent table.by_child };
 }
 
 impl NameTable {
@@ -39,8 +46,12 @@ impl NameTable {
     pub fn new(alloc: Global, lines: u32) -> Result<NameTable, AllocError>
         ensures { IfOk result (λ table. table ≡ replicate lines None) }
     {
-        let lines = rows::blank_lines(alloc, lines)?;
-        Ok(NameTable { lines })
+        Ok(NameTable {
+            lines: rows::blank_lines(alloc, lines)?,
+            by_name: LineIndex::new(alloc, lines)?,
+            by_parent: LineIndex::new(alloc, lines)?,
+            by_child: LineIndex::new(alloc, lines)?,
+        })
     }
 
     /// The line of the parent's name, and its child; None where no line has that parent and name.
@@ -51,7 +62,7 @@ impl NameTable {
         ensures none { IfNone result ((k : ℕ) → is_entry parent name.now (row self.now k) ≡ false) }
         ensures keyed { IsKeyed self.now }
     {
-        rows::find_name(&self.lines, parent, &name.bytes)
+        rows::find_name(&self.lines, &self.by_name, parent, &name.bytes)
     }
 
     /// The names below the parent, each once, in the order of their bytes.
@@ -62,7 +73,7 @@ impl NameTable {
         ensures once { IfOk result (λ names. (name : List ℕ)
             → count_by (λ x. is_same x name) names.items ≤ 1) }
     {
-        sorted_children(alloc, &self.lines, parent)
+        sorted_children(alloc, &self.lines, &self.by_parent, parent)
     }
 
     /// The lowest free line, None where none is free.
@@ -70,7 +81,7 @@ impl NameTable {
         ensures lowest { result ≡ free_line self.now }
         ensures within { IfSome result (λ line. line < length self.now) }
     {
-        rows::free_line(&self.lines)
+        rows::free_line(&self.lines, &self.by_child)
     }
 
     /// How many lines are free.
@@ -78,6 +89,21 @@ impl NameTable {
         ensures { result ≡ count_by is_free_row self.now }
     {
         rows::free_count(&self.lines)
+    }
+
+    // Gives a line another row. It takes no memory.
+    fn put(&mut self, line: u32, row: Option<NameLine>)
+        requires in_table { line < length self.old }
+        requires keyed { IsKeyed self.old → IsKeyed (slice_set self.old line row) }
+        ensures put { self.new ≡ slice_set self.old line row }
+        ensures was_keyed { IsKeyed self.old }
+    {
+        let was = rows::words_of(&self.lines[line as usize]);
+        let now = rows::words_of(&row);
+        self.by_name.change(line, was.name, now.name);
+        self.by_parent.change(line, was.parent, now.parent);
+        self.by_child.change(line, was.child, now.child);
+        self.lines[line as usize] = row;
     }
 
     /// Gives a line of the table this name, in place of the one that it has. No other line may have
@@ -89,7 +115,7 @@ impl NameTable {
         ensures set { OnOk result (self.new ≡ slice_set self.old line (Some value)) }
         ensures same { OnErr result (self.new ≡ self.old) }
     {
-        self.lines[line as usize] = Some(value);
+        self.put(line, Some(value));
         Ok(())
     }
 
@@ -100,8 +126,8 @@ impl NameTable {
         requires has_it { is_entry value.parent value.name (row self.old target) ≡ true }
         ensures { self.new ≡ slice_set (slice_set self.old target None) line (Some value) }
     {
-        self.lines[target as usize] = None;
-        self.lines[line as usize] = Some(value);
+        self.put(target, None);
+        self.put(line, Some(value));
     }
 
     /// Frees a line of the table. It takes no memory.
@@ -109,7 +135,7 @@ impl NameTable {
         requires { line < length self.old }
         ensures { self.new ≡ slice_set self.old line None }
     {
-        self.lines[line as usize] = None;
+        self.put(line, None);
     }
 
     /// Whether going up from the inode, itself included, comes to the ancestor. No path of names
@@ -118,7 +144,7 @@ impl NameTable {
         requires { IsAcyclic self.now }
         ensures { IsTrue result ↔ IsBelow self.now ino ancestor }
     {
-        walks::is_below(&self.lines, ino, ancestor)
+        walks::is_below(&self.lines, &self.by_child, ino, ancestor)
     }
 
     /// How many names the longest path below the inode has, 0 where nothing is below it. No path of

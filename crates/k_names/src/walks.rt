@@ -4,15 +4,23 @@ ghost use Rattle.std.specs.Prelude.{◌≡◌, ◌<◌, ◌≤◌, ◌^◌, ◌�
 ghost use Rattle.layout_model.specs.Names.{IsBelow};
 ghost use Rattle.layout_model.specs.Tables.{IsKeyed, IsAcyclic};
 ghost use Rattle.k_names.specs.Heights.{HasHeightWithin, child_below};
+ghost use Rattle.k_names.specs.Indexes.{child_word_of, IsIndex};
 
+use crate::index::LineIndex;
 use crate::line::NameLine;
 use crate::rows::parent_of;
 
 // Whether going up from the inode, itself included, comes to the ancestor.
-pub(crate) fn is_below(rows: &[Option<NameLine>], ino: u32, ancestor: u32) -> bool
+pub(crate) fn is_below(
+    rows: &[Option<NameLine>],
+    by_child: &LineIndex,
+    ino: u32,
+    ancestor: u32,
+) -> bool
     requires keyed { IsKeyed rows.now }
     requires acyclic { IsAcyclic rows.now }
     requires size { length rows.now < 2 ^ 32 }
+    requires index { IsIndex child_word_of rows.now by_child.now }
     ensures { IsTrue result ↔ IsBelow rows.now ino ancestor }
 {
     let mut at = ino;
@@ -21,7 +29,7 @@ pub(crate) fn is_below(rows: &[Option<NameLine>], ino: u32, ancestor: u32) -> bo
         if at == ancestor {
             return true;
         }
-        match parent_of(rows, at) {
+        match parent_of(rows, by_child, at) {
             Some(parent) => at = parent,
             None => return false,
         }

@@ -20,5 +20,5 @@ returns-clause-once c = λ name.
       arith,
       sum_by-IsPermutation (λ x. cond (is_same x name) 1 0) _ _ c.sort_unstable_by.ensures.permutation,
       ap (count_by (λ x. is_same x name)) c.in_ok-names.ensures,
-      names_below-once c.args.rows.now c.args.parent name c.requires,
+      names_below-once c.args.rows.now c.args.parent name c.requires.keyed,
     )

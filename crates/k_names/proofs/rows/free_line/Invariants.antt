@@ -1,7 +1,13 @@
-use Rattle.std.proofs.Common.{◌≡◌, drop}
-use Rattle.layout_model.specs.Names.{is_free_row, first_row_from}
+use Rattle.std.proofs.Common.{◌≡◌, ◌-◌, ◌<◌, ◌≤◌, ℕ, false, length}
+use Rattle.layout_model.specs.Names.{is_free_row, row}
 use Rattle.k_names.proofs.rows.free_line.Given as goal
 
--- the lines from this one on give the answer
+-- no line before this one passes
 abbrev pub invariant-loop-line : goal.invariant-loop-line
-invariant-loop-line l = first_row_from is_free_row l.line (drop l.line l.rows) ≡ first_row_from is_free_row 0 l.rows
+invariant-loop-line l = record {
+  within : l.from ≤ length l.rows;
+  passed : (k : ℕ) → k < l.from → is_free_row (row l.rows k) ≡ false;
+}
+
+abbrev pub decreases-loop-line : goal.decreases-loop-line
+decreases-loop-line l = length l.rows - l.from

@@ -1,8 +1,13 @@
-use Rattle.std.proofs.Common.{◌≡◌, drop}
-use Rattle.layout_model.specs.Names.{is_child, first_row_from}
+use Rattle.std.proofs.Common.{◌≡◌, ◌-◌, ◌<◌, ◌≤◌, ℕ, false, length}
+use Rattle.layout_model.specs.Names.{is_child, row}
 use Rattle.k_names.proofs.rows.parent_of.Given as goal
 
--- the lines from this one on give the answer
-abbrev pub invariant-loop-row : goal.invariant-loop-row
-invariant-loop-row l =
-    first_row_from (is_child l.ino) l.row-index (drop l.row-index l.rows) ≡ first_row_from (is_child l.ino) 0 l.rows
+-- no line before this one passes
+abbrev pub invariant-loop-line : goal.invariant-loop-line
+invariant-loop-line l = record {
+  within : l.from ≤ length l.rows;
+  passed : (k : ℕ) → k < l.from → is_child l.ino (row l.rows k) ≡ false;
+}
+
+abbrev pub decreases-loop-line : goal.decreases-loop-line
+decreases-loop-line l = length l.rows - l.from

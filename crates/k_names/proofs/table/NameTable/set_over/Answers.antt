@@ -1,71 +1,20 @@
 -- A name goes from one line to another: no two lines have the same parent and name.
-use Rattle.std.proofs.Common.{◌≡◌, ◌≢◌, ◌<◌, ℕ, List, length, true, false, ap, arith, subst, sym, ◌∙◌, inl, inr}
-use Rattle.std.proofs.lemmas.Bool.{cases_eq}
-use Rattle.std.proofs.lemmas.List.{get_or-set_other, get_or-set_same, length-set}
+use Rattle.std.proofs.Common.{ap, arith, length, subst, sym}
+use Rattle.std.proofs.lemmas.List.{length-set}
 use Rattle.std.specs.Prelude.{None, Some, slice_set}
-use Rattle.layout_model.specs.Lines.{NameRow}
-use Rattle.layout_model.specs.Names.{Rows, is_entry, row}
-use Rattle.layout_model.specs.TableLaws.{is_entry-parts}
+use Rattle.layout_model.specs.Names.{Rows}
 use Rattle.layout_model.specs.Tables.{IsKeyed}
+use Rattle.k_names.proofs.KeyedLaws.{cleared-keyed, new-keyed}
 use Rattle.k_names.proofs.table.NameTable.set_over.Goals as goal
 
-same_some : (a b : NameRow) → Some a ≡ Some b → a ≡ b
-same_some a b same = cc
+pub put-requires-clause-keyed : goal.put-requires-clause-keyed
+put-requires-clause-keyed c = cleared-keyed c.args.self.now c.args.target c.requires.other
 
-module _ (rows : Rows) (target line : ℕ) (r : NameRow) (keyed : IsKeyed rows) (freed : target < length rows) (within : line < length rows)
-    (has : is_entry r.parent r.name (row rows target) ≡ true) where
-  abbrev none : Rows
-  none = slice_set rows target None
+pub put-requires-2-clause-in_table : goal.put-requires-2-clause-in_table
+put-requires-2-clause-in_table c =
+    omega (arith, c.requires.in_table, ap (λ (xs : Rows). length xs) c.put.ensures.put, length-set c.args.self.now c.args.target None)
 
-  abbrev new : Rows
-  new = slice_set none line (Some r)
-
-  -- what a line has that is in use afterwards, beside the one that gets the name
-  was : (k parent : ℕ) (name : List ℕ) → k ≢ line → is_entry parent name (row new k) ≡ true → (k ≢ target) × (is_entry parent name (row rows k) ≡ true)
-  was k parent name other entry =
-      let before : is_entry parent name (row none k) ≡ true = sym (ap (is_entry parent name) (get_or-set_other none line k (Some r) None other)) ∙ entry in
-      let apart : k ≢ target =
-      λ at.
-      (let gone : row none k ≡ None = ap (row none) at ∙ get_or-set_same rows target None None freed in
-      let never : false ≡ true = sym (ap (is_entry parent name) gone) ∙ before in
-      cc)
-      in (apart, sym (ap (is_entry parent name) (get_or-set_other rows target k None None apart)) ∙ before)
-
-  -- none of them has the name
-  apart-named : (j k parent : ℕ) (name : List ℕ) → j ≡ line → k ≢ line → is_entry parent name (row new j) ≡ true
-      → is_entry parent name (row new k) ≡ true → ⊥
-  apart-named j k parent name at other entry_j entry_k =
-      let here : row new j ≡ Some r = ap (row new) at ∙ get_or-set_same none line (Some r) None (omega (arith, within, length-set rows target None)) in
-      let own = is_entry-parts parent name (row new j) entry_j in
-      let row_is : r ≡ own.0 = same_some r own.0 (sym here ∙ own.1) in
-      let parent_is : r.parent ≡ parent = ap (λ (s : NameRow). s.parent) row_is ∙ own.2 in
-      let name_is : r.name ≡ name = ap (λ (s : NameRow). s.name) row_is ∙ own.3 in
-      let there : is_entry parent name (row rows target) ≡ true = subst (λ p. is_entry p name (row rows target) ≡ true) parent_is
-      (subst (λ n. is_entry r.parent n (row rows target) ≡ true) name_is has) in
-      let before = was k parent name other entry_k in
-      before.0 (keyed.one_line parent name k target before.1 there)
-
-  new-keyed : IsKeyed new
-  new-keyed = record {
-    one_line = λ parent name j k entry_j entry_k. elim (cases_eq j line) [
-      | inl j_at ↦ elim (cases_eq k line) [
-        | inl k_at ↦ j_at ∙ sym k_at
-        | inr other ↦ absurd (apart-named j k parent name j_at other entry_j entry_k)
-      ]
-      | inr j_other ↦ elim (cases_eq k line) [
-        | inl k_at ↦ absurd (apart-named k j parent name k_at j_other entry_k entry_j)
-        | inr k_other ↦ keyed.one_line parent name j k (was j parent name j_other entry_j).1 (was k parent name k_other entry_k).1
-      ]
-    ];
-  }
-
-pub invariant_of-self : goal.invariant_of-self
-invariant_of-self c =
-    let rows = c.self.inside.lines.items in
-    let same : (n : ℕ) → n < length c.args.self.now → n < length rows = λ n below. subst (λ (xs : Rows). n < length xs) (sym c.self.view_is) below in
-    let has : is_entry c.args.value.parent c.args.value.name (row rows c.args.target) ≡ true =
-    subst (λ (xs : Rows). is_entry c.args.value.parent c.args.value.name (row xs c.args.target) ≡ true) (sym c.self.view_is) c.requires.has_it
-    in (
-      new-keyed rows c.args.target c.args.line c.args.value c.self.invariant.0 (same c.args.target c.requires.other) (same c.args.line c.requires.in_table) has,
-      omega (arith, c.self.invariant.1, length-set rows c.args.target None, length-set (slice_set rows c.args.target None) c.args.line (Some c.args.value)),
-    )
+pub put-requires-2-clause-keyed : goal.put-requires-2-clause-keyed
+put-requires-2-clause-keyed c = λ _.
+    subst (λ (xs : Rows). IsKeyed (slice_set xs c.args.line (Some c.args.value))) (sym c.put.ensures.put)
+    (new-keyed c.args.self.now c.args.target c.args.line c.args.value c.put.ensures.was_keyed c.requires.other c.requires.in_table c.requires.has_it)

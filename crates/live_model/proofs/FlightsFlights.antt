@@ -14,20 +14,23 @@ use Rattle.write_jobs.specs.layout_model.declared.lines.Draft.{Draft}
 use Rattle.write_jobs.specs.layout_model.declared.lines.Kind.TheVariants.{File}
 use Rattle.write_jobs.specs.world_model.image_model.Volume.{inode, Volume}
 use Rattle.write_jobs.specs.list_laws.Members.{In, pushed-In}
-use Rattle.write_jobs.specs.world_model.posix_spec.State.{State}
+use Rattle.write_jobs.specs.world_model.crash_spec.Sync.{with_bytes}
+use Rattle.write_jobs.specs.world_model.posix_spec.Run.{after_call}
+use Rattle.write_jobs.specs.world_model.posix_spec.State.{State, with_file}
 use Rattle.write_jobs.specs.world_write_laws.JobSteps.{Valid-front}
-use Rattle.write_jobs.specs.world_model.JobLaws.{live_claims-more}
+use Rattle.write_jobs.specs.world_image_laws.Settings.{keeps_setting}
+use Rattle.write_jobs.specs.world_model.JobLaws.{acted, live_claims-more}
 use Rattle.write_jobs.specs.world_model.Latest.{AreBelow-Consecutive}
-use Rattle.write_jobs.specs.world_model.Jobs.{IsStagedIn, Job, JobStands, live_claims, Valid}
-use Rattle.write_jobs.specs.world_model.Stands.{Consecutive, entries_of}
+use Rattle.write_jobs.specs.world_model.Jobs.{IsStagedIn, Job, JobStands, live_claims, unfinished_call, Valid}
+use Rattle.write_jobs.specs.world_model.Stands.{Consecutive, entries_of, number}
 use Rattle.write_jobs.specs.Jobs.{loan_at}
 use Rattle.write_jobs.specs.Blocks.{AreOut, ArePutBack, IsBeside}
 use Rattle.write_jobs.proofs.Begins.{begins_job}
-use Rattle.write_jobs.proofs.Ends.{finishes_job, gives_up_job}
+use Rattle.write_jobs.proofs.Ends.{finishes_job, gives_up_job, lands_job}
 use Rattle.live_model.specs.Overlays.{IsOverlayOf, run_of}
 use Rattle.live_model.proofs.OverlaysOverlays.{lays_beside, lays_entry}
 use Rattle.live_model.specs.Flying.{AreOverlays, FileState, IsFlying, IsOut, with_entry}
-use Rattle.live_model.specs.FlightsLaws.{FliesBegun, FliesFinished, FliesGivenUp}
+use Rattle.live_model.specs.FlightsLaws.{FliesBegun, FliesFinished, FliesGivenUp, FliesLanded}
 use Rattle.live_model.proofs.Members.{among, find_block, front, job_apart, job_stands, no_common, own, split, whole_others, whole_own, whole_pushed}
 
 unmarked_home : (c : Cell) → is_lent (unmarked c) ≡ is_lent c
@@ -103,6 +106,23 @@ pub flies_finished : FliesFinished
 flies_finished v d e claims a j b files numbers s count slot loans words fly strict back size hold spell = record {
   device = finishes_job v d e claims a j b numbers s count slot loans words fly.device (fly.out j (own a j b)) back size hold spell (whole_own a j b (fly.whole strict));
   whole = λ again. whole_others a j b (fly.whole strict);
+  out = others_out v d e claims a j b files numbers s count loans fly back;
+  home = others_home v d e claims a j b files numbers s count loans fly back (λ k n below within. ap is_lent (hold k n (omega (arith, below, size)) within));
+  overlays = λ ino file.
+      let job = stood v d e claims a j b files numbers s count loans fly back in
+      subst (λ live. IsOverlayOf v live ino (with_entry files j.draft ino).runs (with_entry files j.draft ino).size) (sym (live_claims-more v claims slot j.draft job.alive))
+      (laid v (live_claims v claims) j.draft files fly.overlays (omega (arith, job.order))
+      (Valid-front v claims a j b (journaled (words_of d)) numbers s (fly.device.world (words_of d) (IsImage-words_of d)).valid).stands.log.orders ino file);
+}
+
+same_mode : (x : State) (n : ℕ) (bytes : List ℕ) → (with_bytes x n bytes).mode ≡ x.mode
+unfolding with_file
+same_mode x n bytes = refl
+
+pub flies_landed : FliesLanded
+flies_landed v d e claims a j b files numbers s count slot loans words fly back size hold spell = record {
+  device = lands_job v d e claims a j b numbers s count slot loans words fly.device (fly.out j (own a j b)) back size hold spell;
+  whole = λ again. whole_others a j b (fly.whole (sym (same_mode (after_call s (unfinished_call j)) (number numbers j.draft.ino) j.found ∙ (keeps_setting s (unfinished_call j)).mode) ∙ again));
   out = others_out v d e claims a j b files numbers s count loans fly back;
   home = others_home v d e claims a j b files numbers s count loans fly back (λ k n below within. ap is_lent (hold k n (omega (arith, below, size)) within));
   overlays = λ ino file.

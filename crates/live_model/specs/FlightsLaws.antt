@@ -17,7 +17,7 @@ use Rattle.write_jobs.specs.world_model.posix_laws.Views.{need_of}
 use Rattle.write_jobs.specs.commute_laws.posix_types.declared.call.Mode.{Mode}
 use Rattle.write_jobs.specs.world_model.posix_spec.Run.{after_call}
 use Rattle.write_jobs.specs.world_model.posix_spec.State.{room, State}
-use Rattle.write_jobs.specs.world_model.JobLaws.{needs}
+use Rattle.write_jobs.specs.world_model.JobLaws.{acted, needs}
 use Rattle.write_jobs.specs.world_model.Jobs.{AreApartJobs, unfinished_call, Job, JobStands, live_claims}
 use Rattle.write_jobs.specs.Jobs.{HoldWords}
 use Rattle.write_jobs.specs.Blocks.{ArePutBack, GoOut, SpellWhole}
@@ -39,6 +39,14 @@ FliesFinished =
     (v : Volume) (d e : List Cell) (claims : List (ℕ × Draft)) (a : List Job) (j : Job) (b : List Job) (files : ℕ → FileState) (numbers : List ℕ) (s : State) (count slot : ℕ) (loans : List Part) (words : List ℕ)
     → IsFlying v d claims (a ++ j ∷ b) files numbers s count → s.mode ≡ Mode.Strict → ArePutBack v j.draft loans d e → length loans ≡ j.draft.count → HoldWords loans words → SpellWhole j.draft words j.whole
     → IsFlying v e (claims ++ (slot, j.draft) ∷ []) (a ++ b) (with_entry files j.draft) numbers (after_call s (unfinished_call j)) count
+
+-- A JOB LANDS, in whatever mode: its blocks come back with its words, its entry is claimed, its run is laid, and the state has what is found of it.
+-- (In strict mode that is its whole bytes, so that its call has acted.)
+abbrev pub FliesLanded : Type 0
+FliesLanded =
+    (v : Volume) (d e : List Cell) (claims : List (ℕ × Draft)) (a : List Job) (j : Job) (b : List Job) (files : ℕ → FileState) (numbers : List ℕ) (s : State) (count slot : ℕ) (loans : List Part) (words : List ℕ)
+    → IsFlying v d claims (a ++ j ∷ b) files numbers s count → ArePutBack v j.draft loans d e → length loans ≡ j.draft.count → HoldWords loans words → SpellWhole j.draft words j.whole
+    → IsFlying v e (claims ++ (slot, j.draft) ∷ []) (a ++ b) (with_entry files j.draft) numbers (acted numbers s j) count
 
 -- A JOB IS GIVEN UP: its blocks come back with whatever they hold.
 abbrev pub FliesGivenUp : Type 0

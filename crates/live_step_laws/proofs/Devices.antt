@@ -23,6 +23,7 @@ use Rattle.k_split_laws.specs.world_image_laws.Flights.{image_of, kept_leading, 
 use Rattle.k_split_laws.specs.world_image_laws.LentLaws.{SameBlocks}
 use Rattle.live_step_laws.specs.Changes.{AreSpare, IsChangeWith}
 use Rattle.live_step_laws.specs.ChangesLaws.{ChangesDeviceWith, KeepsLogHomeWith, KeepsPromiseWith}
+use Rattle.live_step_laws.specs.FillsLaws.{ChangesDeviceRead, KeepsPromiseRead, TakesWhereRead}
 use Rattle.live_step_laws.proofs.Named.{SameNamed, world_named}
 use Rattle.live_step_laws.proofs.Words.{headed_changed, same_block, same_log}
 
@@ -36,8 +37,8 @@ named_same blocks v w claims jobs numbers s count before image world sound is sp
 
 -- ---- done
 
-pub changes_device_with : ChangesDeviceWith
-changes_device_with blocks v w d e claims jobs numbers after s new count later device change spare stands room takes = record {
+pub changes_device_read : ChangesDeviceRead
+changes_device_read blocks v w d e claims jobs numbers after s new count later device change spare stands room takes = record {
   stands = stands;
   headed = λ image is.
       let from = change.each_image image is in
@@ -46,11 +47,15 @@ changes_device_with blocks v w d e claims jobs numbers after s new count later d
   world = λ image is.
       let from = change.each_image image is in
       let was = device.world from.0 from.1.is_image in
-      takes (journaled image)
+      takes image is (subst (λ g. Reads g (journaled image) w) change.geometry (stands.reads image is))
       (world_named v claims jobs (journaled from.0) (journaled image) numbers s count
       (named_same blocks v w claims jobs numbers s count from.0 image was (sound_headed v.geometry from.0 (device.headed from.0 from.1.is_image)) from.2 spare) was);
   room = room;
 }
+
+pub changes_device_with : ChangesDeviceWith
+changes_device_with blocks v w d e claims jobs numbers after s new count later device change spare stands room takes =
+    changes_device_read blocks v w d e claims jobs numbers after s new count later device change spare stands room (λ image is reads world. takes (journaled image) world)
 
 pub keeps_log_home_with : KeepsLogHomeWith
 keeps_log_home_with blocks v w d e claims headed change spare home image is =
@@ -62,7 +67,7 @@ keeps_log_home_with blocks v w d e claims headed change spare home image is =
 
 -- An image within the change shows the world before it, or the one after it, with the same of its log.
 shows_with : (blocks : List ℕ) (v w : Volume) (d e : List Cell) (claims : List (ℕ × Draft)) (jobs : List Job) (numbers after : List ℕ) (s new : State) (count later : ℕ) (back : ℕ → Cell) (first : Words) (slots : List (Option ℕ)) (image : Words)
-    → StandsFor v d claims jobs numbers s count → IsChangeWith blocks v w d e → AreSpare blocks v → SameBlocks v w jobs → HasRoom w claims jobs new → Takes v w claims jobs numbers after s new count later
+    → StandsFor v d claims jobs numbers s count → IsChangeWith blocks v w d e → AreSpare blocks v → SameBlocks v w jobs → HasRoom w claims jobs new → TakesWhereRead v w e claims jobs numbers after s new count later
     → IsPutBack v e back first claims jobs slots image → ShowsWorld v claims (jobs_in_log slots jobs) numbers s count image ⊎ ShowsWorld w claims (jobs_in_log slots jobs) after new later image
 shows_with blocks v w d e claims jobs numbers after s new count later back first slots image device change spare same room takes is = by from.2.reads where
   from : (before : Words) × ComesFrom d image before × IsOldOrNew v.geometry blocks v w before image
@@ -87,13 +92,17 @@ shows_with blocks v w d e claims jobs numbers after s new count later back first
   by (inl old) = inl (shows_in_log v claims jobs slots numbers s count image headed old world device.room shows)
   by (inr new_one) =
       inr (shows_in_log w claims jobs slots after new later image (subst (λ g. IsHeaded g image) (sym change.geometry) headed) (subst (λ g. Reads g (journaled image) w) (sym change.geometry) new_one)
-      (takes (journaled image) world) room (shows_changed v w claims jobs slots image change.geometry change.base same shows))
+      (takes image (image_of e back image is.image_is) new_one world) room (shows_changed v w claims jobs slots image change.geometry change.base same shows))
 
-pub promise_with : KeepsPromiseWith
-promise_with blocks v w d e claims jobs numbers after s new start history count later first c mode found device before behind change spare same room takes back slots image is =
+pub promise_read : KeepsPromiseRead
+promise_read blocks v w d e claims jobs numbers after s new start history count later first c mode found device before behind change spare same room takes back slots image is =
     elim (shows_with blocks v w d e claims jobs numbers after s new count later back first slots image device change spare same room takes is) [
       | inl old ↦ kept_leading v claims jobs slots numbers s count image start history c mode found before old
       | inr changed ↦
           subst (λ g. IsKept g start history (calls_in_log slots jobs ++ c ∷ []) image) change.geometry
           (kept_leading w claims jobs slots after new later image start history c mode found behind changed)
     ]
+
+pub promise_with : KeepsPromiseWith
+promise_with blocks v w d e claims jobs numbers after s new start history count later first c mode found device before behind change spare same room takes =
+    promise_read blocks v w d e claims jobs numbers after s new start history count later first c mode found device before behind change spare same room (λ image is reads world. takes (journaled image) world)

@@ -8,6 +8,8 @@ pub mod Standing
 mod Begun
 pub mod Restaged
 mod Reserved
+mod Filled
+mod Holed
 pub use Rattle.k_split_laws.proofs.k_plans_proofs as k_plans_proofs
 pub use Rattle.k_split_laws.proofs.k_tables_proofs as k_tables_proofs
 pub use Rattle.live_model.proofs as live_model_proofs

@@ -43,18 +43,18 @@ use Rattle.live_step_laws.proofs.Entries.{decide, fewer_live, same_entries}
 
 -- ---- jobs
 
-job_stands : (v : Volume) (live : List Draft) (f : Words) (numbers : List ℕ) (s : State) (jobs : List Job) (j : Job) → JobsStand v live f numbers s jobs → In j jobs → JobStands v live f numbers s j
+pub job_stands : (v : Volume) (live : List Draft) (f : Words) (numbers : List ℕ) (s : State) (jobs : List Job) (j : Job) → JobsStand v live f numbers s jobs → In j jobs → JobStands v live f numbers s j
 job_stands v live f numbers s [] j out is = absurd is
 job_stands v live f numbers s (i ∷ jobs) j out (inl same) = subst (JobStands v live f numbers s) same out.0
 job_stands v live f numbers s (i ∷ jobs) j out (inr behind) = job_stands v live f numbers s jobs j out.2 behind
 
 -- the job of a pending one
-record IsJobOf (p : JobOut) (jobs : List Job) : Type 0 where
-  job : Job
-  there : In job jobs
-  draft : job.draft ≡ p.draft
+pub record IsJobOf (p : JobOut) (jobs : List Job) : Type 0 where
+  pub job : Job
+  pub there : In job jobs
+  pub draft : job.draft ≡ p.draft
 
-job_of : (pending : List JobOut) (jobs : List Job) (p : JobOut) → AreJobsOf pending jobs → In p pending → IsJobOf p jobs
+pub job_of : (pending : List JobOut) (jobs : List Job) (p : JobOut) → AreJobsOf pending jobs → In p pending → IsJobOf p jobs
 job_of [] jobs p are is = absurd is
 job_of (q ∷ pending) [] p are is = absurd are
 job_of (q ∷ pending) (j ∷ jobs) p are (inl same) = record { job = j; there = inl refl; draft = are.2 ∙ ap (λ (x : JobOut). x.draft) same }

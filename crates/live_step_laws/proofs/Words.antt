@@ -21,7 +21,7 @@ use Rattle.k_split_laws.specs.world_image_laws.Images.{IsHeaded}
 
 -- ---- places
 
-behind_journal : (g : Geometry) (i : ℕ) → 512 * log_block g ≤ i → is_journal_word i ≡ false
+pub behind_journal : (g : Geometry) (i : ℕ) → 512 * log_block g ≤ i → is_journal_word i ≡ false
 behind_journal g i behind = grind (arith, nat_tests, behind)
 
 data_least : (g : Geometry) (b : ℕ) → is_data_block g b ≡ true → first_data g ≤ b

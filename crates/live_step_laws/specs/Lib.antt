@@ -3,6 +3,7 @@ pub mod ChangesLaws
 pub mod StepsLaws
 pub mod BeginsLaws
 pub mod ReservesLaws
+pub mod FillsLaws
 pub use Rattle.k_split_laws.specs.block_io as block_io
 pub use Rattle.relink_laws.specs.world_write_laws.block_counts
 pub use Rattle.relink_laws.specs.world_write_laws.commute_laws

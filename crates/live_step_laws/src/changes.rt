@@ -8,10 +8,13 @@
 //! said in `world_image_laws` and `world_image_laws` of changes that write no block.
 
 ghost use Rattle.live_step_laws.specs.ChangesLaws.{ChangesDeviceWith, KeepsLogHomeWith, KeepsPromiseWith};
+ghost use Rattle.live_step_laws.specs.FillsLaws.{ChangesDeviceRead, KeepsPromiseRead};
 
 /// A change that writes spare blocks is one beside writes in flight.
 pub fn changes_that_write_spare_blocks()
     ensures done { ChangesDeviceWith }
     ensures log { KeepsLogHomeWith }
     ensures cut { KeepsPromiseWith }
+    ensures done_read { ChangesDeviceRead }
+    ensures cut_read { KeepsPromiseRead }
 {}

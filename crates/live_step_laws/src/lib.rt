@@ -8,16 +8,19 @@
 //!   to.
 //! - `begins`: A job begins while others are in flight.
 //! - `reserves`: A run of staging blocks is reserved while writes are in flight.
+//! - `fills`: Holes of a file are filled while writes are in flight.
 //!
 //! Stands on `k_split_laws`, `live_model`, `relink_laws` and `k_split`.
 #![tactic(auto)]
 
 mod begins;
 mod changes;
+mod fills;
 mod reserves;
 mod steps;
 
 pub use begins::{FileTable, StageRun, a_job_begins_in_flight};
 pub use changes::changes_that_write_spare_blocks;
+pub use fills::{holes_are_filled_as_asked, holes_are_filled_in_flight};
 pub use reserves::{StageFault, Staging, a_run_is_reserved_in_flight};
 pub use steps::{Collection, KFault, KSplit, a_step_leaves_the_world_standing, read_bytes};

@@ -1,6 +1,6 @@
 -- The images of a device whose log lines and data blocks are out: those that a power loss may leave once each of them is put
 -- back as it was at that moment; and the promise for all of them.
-use Rattle.std.specs.Prelude.{ℕ, List, [], ◌∷◌, ◌++◌, map, Option, None, Some}
+use Rattle.std.specs.Prelude.{ℕ, List, [], ◌∷◌, ◌++◌, length, map, take, drop, Option, None, Some}
 use Rattle.image_laws.specs.pm_model.declared.Cell.{Cell}
 use Rattle.image_laws.specs.pm_model.Parts.{IsImageWith, put_back}
 use Rattle.image_laws.specs.pm_model.Words.{Words}
@@ -36,9 +36,21 @@ jobs_in_log (Some slot ∷ slots) (j ∷ jobs) = j ∷ jobs_in_log slots jobs
 abbrev pub calls_in_log : List (Option ℕ) → List Job → List Unfinished
 calls_in_log slots jobs = map unfinished_call (jobs_in_log slots jobs)
 
--- THE PROMISE ONCE ALL IS PUT BACK, after the history: each such image is kept with the calls of just those jobs unfinished whose
--- entry may stand in the log, and behind them the last ones.
-abbrev pub IsKeptBack : Volume → List Cell → Words → List (ℕ × Draft) → List Job → State → List Item → List Unfinished → Type 0
-IsKeptBack v d first claims jobs start history last =
+-- such calls with one among them: behind those of the first jobs, before those of the others
+abbrev pub calls_among : List (Option ℕ) → List Job → Unfinished → List Job → List Unfinished
+calls_among slots a c b = calls_in_log (take (length a) slots) a ++ c ∷ calls_in_log (drop (length a) slots) b
+
+-- THE PROMISE ONCE ALL IS PUT BACK, after the history: each such image is kept with these calls unfinished, by the jobs whose entry may stand
+-- in the log;
+abbrev pub IsKeptBackAs : Volume → List Cell → Words → List (ℕ × Draft) → List Job → State → List Item → (List (Option ℕ) → List Unfinished) → Type 0
+IsKeptBackAs v d first claims jobs start history calls =
     (back : ℕ → Cell) (slots : List (Option ℕ)) (image : Words) → IsPutBack v d back first claims jobs slots image
-    → IsKept v.geometry start history (calls_in_log slots jobs ++ last) image
+    → IsKept v.geometry start history (calls slots) image
+
+-- with the calls of just those jobs, and behind them the last ones;
+abbrev pub IsKeptBack : Volume → List Cell → Words → List (ℕ × Draft) → List Job → State → List Item → List Unfinished → Type 0
+IsKeptBack v d first claims jobs start history last = IsKeptBackAs v d first claims jobs start history (λ slots. calls_in_log slots jobs ++ last)
+
+-- or with one more call among them.
+abbrev pub IsKeptBackAmong : Volume → List Cell → Words → List (ℕ × Draft) → List Job → Unfinished → List Job → State → List Item → Type 0
+IsKeptBackAmong v d first claims a c b start history = IsKeptBackAs v d first claims (a ++ b) start history (λ slots. calls_among slots a c b)

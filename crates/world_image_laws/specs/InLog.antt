@@ -131,7 +131,7 @@ room_in_log v claims jobs slots s room = record { free = (let free = room.free i
 
 -- ---- a call beside them
 
-apart_flights : (f : Flight) (numbers : List ℕ) (slots : List (Option ℕ)) (jobs : List Job) → IsApart f (flights_of numbers jobs) → IsApart f (flights_of numbers (jobs_in_log slots jobs))
+pub apart_flights : (f : Flight) (numbers : List ℕ) (slots : List (Option ℕ)) (jobs : List Job) → IsApart f (flights_of numbers jobs) → IsApart f (flights_of numbers (jobs_in_log slots jobs))
 apart_flights f numbers [] jobs apart = tt
 apart_flights f numbers (o ∷ slots) [] apart = tt
 apart_flights f numbers (None ∷ slots) (j ∷ jobs) apart = apart_flights f numbers slots jobs apart.1
@@ -149,7 +149,7 @@ lets_in_log s c numbers (o ∷ slots) [] lets = tt
 lets_in_log s c numbers (None ∷ slots) (j ∷ jobs) lets = lets_in_log s c numbers slots jobs lets.1
 lets_in_log s c numbers (Some slot ∷ slots) (j ∷ jobs) lets = (lets.0, lets_in_log s c numbers slots jobs lets.1)
 
-less_flown : (s : State) (numbers : List ℕ) (slots : List (Option ℕ)) (jobs : List Job) → flying.needs s (flights_of numbers (jobs_in_log slots jobs)) ≤ flying.needs s (flights_of numbers jobs)
+pub less_flown : (s : State) (numbers : List ℕ) (slots : List (Option ℕ)) (jobs : List Job) → flying.needs s (flights_of numbers (jobs_in_log slots jobs)) ≤ flying.needs s (flights_of numbers jobs)
 less_flown s numbers [] jobs = omega arith
 less_flown s numbers (o ∷ slots) [] = omega arith
 less_flown s numbers (None ∷ slots) (j ∷ jobs) =

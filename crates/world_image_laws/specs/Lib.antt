@@ -20,6 +20,9 @@ pub mod InLog
 pub mod PartOrders
 pub mod Flights
 pub mod LentLaws
+pub mod PlaceLaws
+pub mod Places
+pub mod Amid
 pub use Rattle.image_laws.specs.block_counts
 pub use Rattle.world_step_laws.specs.commute_laws as commute_laws
 pub use Rattle.world_step_laws.specs.world_model.crash_spec

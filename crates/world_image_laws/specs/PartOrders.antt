@@ -96,7 +96,7 @@ lets-same s new d [] same lets = tt
 lets-same s new d (f ∷ flights) same lets = (record { threads = lets.0.threads; aside = subst (λ o. o ≢ Some f.node) (sym same) lets.0.aside }, lets-same s new d flights same lets.1)
 
 module _ (s : State) (d : Unfinished) (f : Flight) (flights : List Flight) (flying : AreInFlight s (f ∷ flights)) (two : AreTwoEach (f ∷ flights)) (lets : LetsAllBe s d (f ∷ flights)) (fits : takes s d + needs s (f ∷ flights) ≤ room s) where
-  abbrev new : State
+  abbrev pub new : State
   new = after_call s d
 
   sum : needs s (f ∷ flights) ≡ need_of s f.begun.0 f.begun.1 + needs s flights
@@ -118,7 +118,7 @@ module _ (s : State) (d : Unfinished) (f : Flight) (flights : List Flight) (flyi
 
   -- whatever is found of the write
   module _ (bytes : List ℕ) (size : length bytes ≡ length f.whole) where
-    abbrev next : State
+    abbrev pub next : State
     next = after_part s f flying.0 bytes size
 
     abbrev found : Change
@@ -149,7 +149,7 @@ module _ (s : State) (d : Unfinished) (f : Flight) (flights : List Flight) (flyi
     fits_then = let needed = still.1 in omega (arith, taken, needed, room_then)
 
     -- the call ends in the state in which the write acted behind it
-    ends : after_call next d ≡ with_bytes (after_call new f.begun) f.node bytes
+    pub ends : after_call next d ≡ with_bytes (after_call new f.begun) f.node bytes
     ends =
         let one = step-acted s f.begun.0 both.handle found d.0 d.1 touches lets.0.threads other (omega (arith, fits)) (subst (λ x. takes s d ≤ room x) next_is (omega (arith, room_then))) in
         ap (λ x. after_call x d) next_is

@@ -22,4 +22,4 @@ pub use images::{
     a_change_is_cut_off, a_change_is_done, a_mounted_device_runs,
     a_node_without_a_name_is_in_no_tree, a_running_world_keeps_its_promise, the_room_is_kept,
 };
-pub use lent::writes_in_flight_keep_the_promise;
+pub use lent::{a_part_of_a_write_is_found, writes_in_flight_keep_the_promise};

@@ -20,16 +20,19 @@ use Rattle.world_write_laws.specs.volume_laws.ImageLaws.{journaled-idle}
 use Rattle.world_write_laws.specs.volume_laws.LineWords.{data_word}
 use Rattle.world_write_laws.specs.k_split_model.Stands.{Stands}
 use Rattle.world_write_laws.specs.posix_spec.Run.{after_call}
-use Rattle.world_write_laws.specs.posix_spec.State.{State}
+use Rattle.world_write_laws.specs.posix_spec.State.{State, with_file}
+use Rattle.world_write_laws.specs.crash_spec.Sync.{with_bytes}
 use Rattle.world_image_laws.specs.Images.{StandsFor}
 use Rattle.world_image_laws.specs.Settings.{keeps_setting}
-use Rattle.world_write_laws.specs.JobSteps.{finished, given_up, Valid-front}
+use Rattle.world_write_laws.specs.JobSteps.{finished, given_up, landed, Valid-front}
 use Rattle.world_write_laws.specs.Free.{stays_free_finished, stays_free_given_up}
+use Rattle.world_write_laws.specs.world_model.JobLaws.{acted, HoldsWhole-found}
 use Rattle.world_write_laws.specs.world_model.Jobs.{unfinished_call, HoldsWhole, Job, JobStands, live_claims}
+use Rattle.world_write_laws.specs.world_model.Stands.{number}
 use Rattle.world_write_laws.specs.world_step_laws.Worlds.{IsWorld}
 use Rattle.write_jobs.specs.Jobs.{HoldWords, loan_at}
 use Rattle.write_jobs.specs.Blocks.{AreOut, ArePutBack, SpellWhole}
-use Rattle.write_jobs.specs.Laws.{FinishesJob, GivesUpJob}
+use Rattle.write_jobs.specs.Laws.{FinishesJob, GivesUpJob, LandsJob}
 use Rattle.write_jobs.proofs.Blocks.{lent_any, staged_in_data}
 
 module _ (v : Volume) (draft : Draft) (loans : List Part) (d e : List Cell) (out : AreOut v draft d) (back : ArePutBack v draft loans d e) where
@@ -60,6 +63,10 @@ module _ (v : Volume) (draft : Draft) (loans : List Part) (d e : List Cell) (out
 
 single_word : (c : Cell) (w x : ℕ) → c ≡ Single w → IsCandidate (unmarked c) x → x ≡ w
 single_word c w x is candidate = subst (λ y. IsCandidate (unmarked y) x) is candidate
+
+same_shape : (x : State) (n : ℕ) (bytes : List ℕ) → (with_bytes x n bytes).shape ≡ x.shape
+unfolding with_file
+same_shape x n bytes = refl
 
 module _ (v : Volume) (d e : List Cell) (claims : List (ℕ × Draft)) (a : List Job) (j : Job) (b : List Job) (numbers : List ℕ) (s : State) (count : ℕ) (loans : List Part)
     (device : StandsFor v d claims (a ++ j ∷ b) numbers s count) (out : AreOut v j.draft d) (back : ArePutBack v j.draft loans d e) where
@@ -105,6 +112,23 @@ module _ (v : Volume) (d e : List Cell) (claims : List (ℕ × Draft)) (a : List
     alive : is_live v j.draft ≡ true
     alive = (Valid-front v claims a j b (journaled (words_of d)) numbers s (device.world (words_of d) (IsImage-words_of d)).valid).out.0.alive
 
+  -- IT LANDS
+  pub job_lands : (slot : ℕ) (words : List ℕ) → length loans ≡ j.draft.count → HoldWords loans words → SpellWhole j.draft words j.whole
+      → StandsFor v e (claims ++ (slot, j.draft) ∷ []) (a ++ b) numbers (acted numbers s j) count
+  job_lands slot words size hold spell = record {
+    stands = stands_before v j.draft loans d e out back v.geometry device.stands;
+    headed = λ image is. device.headed image (image_before v j.draft loans d e out back image is);
+    world = λ image is.
+        landed v claims a j b (journaled image) numbers s count slot (world image is)
+        (HoldsWhole-found v (live_claims v claims) (journaled image) (journaled image) numbers s j (stood image is) (holds words j.whole size hold spell image is));
+    room = record {
+      free = stays_free_finished v claims a j b slot device.room.free alive;
+      blocks = ap (λ x. x.data_blocks) (same_shape (after_call s (unfinished_call j)) (number numbers j.draft.ino) j.found ∙ (keeps_setting s (unfinished_call j)).shape) ∙ device.room.blocks;
+    };
+  } where
+    alive : is_live v j.draft ≡ true
+    alive = (Valid-front v claims a j b (journaled (words_of d)) numbers s (device.world (words_of d) (IsImage-words_of d)).valid).out.0.alive
+
   -- IT IS GIVEN UP
   pub job_given_up : StandsFor v e claims (a ++ b) numbers s count
   job_given_up = record {
@@ -116,6 +140,9 @@ module _ (v : Volume) (d e : List Cell) (claims : List (ℕ × Draft)) (a : List
 
 pub finishes_job : FinishesJob
 finishes_job v d e claims a j b numbers s count slot loans words device out back size hold spell whole = job_finishes v d e claims a j b numbers s count loans device out back slot words size hold spell whole
+
+pub lands_job : LandsJob
+lands_job v d e claims a j b numbers s count slot loans words device out back size hold spell = job_lands v d e claims a j b numbers s count loans device out back slot words size hold spell
 
 pub gives_up_job : GivesUpJob
 gives_up_job v d e claims a j b numbers s count loans device out back = job_given_up v d e claims a j b numbers s count loans device out back

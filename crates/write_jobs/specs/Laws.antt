@@ -16,7 +16,7 @@ use Rattle.world_write_laws.specs.posix_spec.Run.{after_call}
 use Rattle.world_write_laws.specs.posix_spec.State.{room, State}
 use Rattle.world_write_laws.specs.posix_laws.Views.{need_of}
 use Rattle.world_image_laws.specs.Images.{StandsFor}
-use Rattle.world_write_laws.specs.world_model.JobLaws.{needs}
+use Rattle.world_write_laws.specs.world_model.JobLaws.{acted, needs}
 use Rattle.world_write_laws.specs.world_model.Jobs.{AreApartJobs, unfinished_call, Job, JobStands, live_claims}
 use Rattle.write_jobs.specs.Contents.{SpellBytes, staged_bytes}
 use Rattle.write_jobs.specs.Jobs.{HoldWords}
@@ -41,6 +41,15 @@ FinishesJob =
     → StandsFor v d claims (a ++ j ∷ b) numbers s count → AreOut v j.draft d → ArePutBack v j.draft loans d e
     → length loans ≡ j.draft.count → HoldWords loans words → SpellWhole j.draft words j.whole → j.found ≡ j.whole
     → StandsFor v e (claims ++ (slot, j.draft) ∷ []) (a ++ b) numbers (after_call s (unfinished_call j)) count
+
+-- A JOB LANDS, in whatever mode: its blocks come back with the words of its whole bytes, and the device stands for the state that has what is
+-- found of it, with its entry claimed.
+abbrev pub LandsJob : Type 0
+LandsJob =
+    (v : Volume) (d e : List Cell) (claims : List (ℕ × Draft)) (a : List Job) (j : Job) (b : List Job) (numbers : List ℕ) (s : State) (count slot : ℕ) (loans : List Part) (words : List ℕ)
+    → StandsFor v d claims (a ++ j ∷ b) numbers s count → AreOut v j.draft d → ArePutBack v j.draft loans d e
+    → length loans ≡ j.draft.count → HoldWords loans words → SpellWhole j.draft words j.whole
+    → StandsFor v e (claims ++ (slot, j.draft) ∷ []) (a ++ b) numbers (acted numbers s j) count
 
 -- A JOB IS GIVEN UP: its blocks come back with whatever they hold.
 abbrev pub GivesUpJob : Type 0

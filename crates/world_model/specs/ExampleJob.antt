@@ -24,6 +24,8 @@ JobStands-a puts = record {
   size = refl;
   rest = rest;
   within = λ i inside. refl;
+  parts = record { front = λ i front. absurd (omega (arith, front)); within_file = λ i front. absurd (omega (arith, front)); rest = λ i not_front. refl };
+  placed = λ i front. absurd (omega (arith, front));
   staging = refl;
   staged = staged_at 1 2 refl;
   apart = λ d is. subst (λ x. AreApart x (entry_a 1 2)) (one_entry d is) (λ same. inl (omega arith));

@@ -1,5 +1,5 @@
 -- A job that lands, or does not: the world of the other jobs is valid.
-use Rattle.std.specs.Prelude.{◌≡◌, ◌≢◌, ◌≤◌, ◌<◌, ℕ, ◌+◌, ◌*◌, ◌/◌, ◌==◌, ◌&&◌, nat_lt, true, List, [], ◌∷◌, ◌++◌, length, map, filter, sum_by, refl}
+use Rattle.std.specs.Prelude.{◌≡◌, ◌≢◌, ◌≤◌, ◌<◌, ℕ, ◌+◌, ◌*◌, ◌/◌, ◌==◌, ◌&&◌, nat_lt, true, List, [], ◌∷◌, ◌++◌, length, map, filter, Option, IsSome, sum_by, refl}
 use Rattle.std.proofs.Common.{arith, ap, ◌∙◌, sym, subst, inl, inr}
 use Rattle.std.proofs.lemmas.Bool.{and_parts}
 use Rattle.std.proofs.lemmas.Bool.Decides.{nat_tests}
@@ -110,6 +110,8 @@ JobStands-beside v live f numbers s i j stands first second apart fits = record 
   size = second.size;
   rest = λ k below beside. ap (λ b. byte_in f b k) (disk-other v live i.draft j.draft.ino (k / 4096) apart.files) ∙ second.rest k below beside;
   within = second.within;
+  parts = second.parts;
+  placed = λ k front. subst IsSome (sym (disk-other v live i.draft j.draft.ino (k / 4096) apart.files)) (second.placed k front);
   staging = second.staging;
   staged = second.staged;
   apart = λ d is. elim (pushed-In live i.draft d is) [ inl old ↦ second.apart d old | inr new ↦ subst (λ x. AreApart x j.draft) new apart.staging ];

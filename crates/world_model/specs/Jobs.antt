@@ -1,5 +1,5 @@
 -- A logged write in flight, and the valid world.
-use Rattle.std.specs.Prelude.{◌≡◌, ◌≢◌, ℕ, ◌+◌, ◌*◌, ◌/◌, ◌<◌, true, false, List, [], ◌∷◌, length, map, filter, Option, Some, slice_index}
+use Rattle.std.specs.Prelude.{◌≡◌, ◌≢◌, ℕ, ◌+◌, ◌-◌, ◌*◌, ◌/◌, ◌<◌, ◌≤◌, true, false, List, [], ◌∷◌, length, map, filter, Option, Some, IsSome, slice_index}
 use Rattle.name_laws.specs.volume_laws.image_model.pm_model.Words.{byte_of, Words}
 use Rattle.name_laws.specs.volume_laws.image_model.extent_model.Extents.{disk_at, is_within}
 use Rattle.name_laws.specs.volume_laws.image_model.layout_model.declared.lines.Draft.{Draft}
@@ -34,6 +34,26 @@ pub record Job : Type 0 where
 abbrev pub unfinished_call : Job → Unfinished
 unfinished_call j = (j.who, j.call)
 
+-- the bytes that a write puts; other calls put none
+abbrev pub put_bytes_of : Call → List ℕ
+put_bytes_of (Call.Write h x) = x
+put_bytes_of (Call.Pwrite h place x) = x
+put_bytes_of call = []
+
+-- Where its first byte lies, if the file ends behind its last one; else a byte behind that. Its bytes that lie before the first block of its
+-- entry are those that sync mode writes in place when it finishes.
+abbrev pub front_from : Job → ℕ
+front_from j = length j.whole - length (put_bytes_of j.call)
+
+abbrev pub IsInFront : Job → ℕ → Type 0
+IsInFront j i = (front_from j ≤ i) × (i < 4096 * j.draft.file_block)
+
+-- THE TWO PARTS OF A WRITE: its bytes before the first block of its entry are those of the call; of all others what is found is the whole.
+pub record HasParts (j : Job) : Type 0 where
+  pub front : (i : ℕ) → IsInFront j i → slice_index j.whole i ≡ slice_index (put_bytes_of j.call) (i - front_from j)
+  pub within_file : (i : ℕ) → IsInFront j i → i < length j.found
+  pub rest : (i : ℕ) → ¬ IsInFront j i → slice_index j.found i ≡ slice_index j.whole i
+
 -- the disk block of block k of an entry; the block is one of those of the entry
 abbrev pub staged_block : Volume → Draft → ℕ → Option ℕ
 staged_block v d k = disk_at (extents v d.staging) (d.staging_block + k)
@@ -51,8 +71,8 @@ abbrev pub live_claims : Volume → List (ℕ × Draft) → List Draft
 live_claims v claims = filter (is_live v) (map (λ (c : ℕ × Draft). c.1) claims)
 
 -- A job stands: its entry is one that a log line can hold; it would be the next live one of its file, with the size of what is found; outside the entry's
--- blocks the file has what is found already, and within them what is found is the whole bytes; its blocks are in a staging file, apart from those of live
--- entries; and its call puts its whole bytes, of which what is found is a part.
+-- blocks the file has what is found already, and within them what is found is the whole bytes; each byte that is still to be written in place has a block;
+-- its blocks are in a staging file, apart from those of live entries; and its call puts its whole bytes, of which what is found is a part.
 pub record JobStands (v : Volume) (live : List Draft) (f : Words) (numbers : List ℕ) (s : State) (j : Job) : Type 0 where
   pub draft : is_draft j.draft ≡ true
   pub fields : FitsDraft j.draft
@@ -61,6 +81,8 @@ pub record JobStands (v : Volume) (live : List Draft) (f : Words) (numbers : Lis
   pub size : j.draft.size ≡ length j.found
   pub rest : (i : ℕ) → i < length j.found → is_within j.draft.file_block j.draft.count (i / 4096) ≡ false → byte_in f (disk_of v live j.draft.ino (i / 4096)) i ≡ slice_index j.found i
   pub within : (i : ℕ) → is_within j.draft.file_block j.draft.count (i / 4096) ≡ true → slice_index j.found i ≡ slice_index j.whole i
+  pub parts : HasParts j
+  pub placed : (i : ℕ) → IsInFront j i → IsSome (disk_of v live j.draft.ino (i / 4096))
   pub staging : (inode v j.draft.staging).kind ≡ Staging
   pub staged : HasStagingBlocks v j.draft
   pub apart : (d : Draft) → In d live → AreApart d j.draft

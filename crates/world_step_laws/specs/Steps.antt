@@ -1,6 +1,6 @@
 -- A call of another caller than those of the jobs keeps the world valid, where what it makes of the volume stands for what
 -- it makes of the state.
-use Rattle.std.specs.Prelude.{◌≡◌, ◌≢◌, ◌⊎◌, ◌≤◌, ◌/◌, ◌+◌, ℕ, Bool, true, false, not, ◌&&◌, ◌==◌, nat_lt, List, [], ◌∷◌, map, length, sum_by, refl}
+use Rattle.std.specs.Prelude.{IsSome, ◌≡◌, ◌≢◌, ◌⊎◌, ◌≤◌, ◌/◌, ◌+◌, ℕ, Bool, true, false, not, ◌&&◌, ◌==◌, nat_lt, List, [], ◌∷◌, map, length, sum_by, refl}
 use Rattle.std.proofs.Common.{arith, ap, ◌∙◌, sym, subst, inl, inr}
 use Rattle.std.proofs.lemmas.Bool.{cases_Bool}
 use Rattle.std.proofs.lemmas.Bool.Decides.{nat_tests}
@@ -241,6 +241,8 @@ job_left touched v w claims f numbers after s new j steps stands job out flight 
       size = job.size;
       rest = λ i below past. ap (λ b. byte_in f b i) (disk_of-left touched v w live j.draft.ino (i / 4096) steps.leaves stands.log out) ∙ job.rest i below past;
       within = job.within;
+      parts = job.parts;
+      placed = λ i front. subst IsSome (sym (disk_of-left touched v w live j.draft.ino (i / 4096) steps.leaves stands.log out)) (job.placed i front);
       staging = staging-left touched v w j.draft steps.leaves job.staging;
       staged = staged-left touched v w j.draft steps.leaves job.staging job.staged;
       apart = λ d is. job.apart d (beside-In touched live d is);

@@ -159,6 +159,8 @@ filled_holes v w claims jobs f numbers s count ino fresh world change zeros besi
           size = job.size;
           rest = λ i below past. bytes_same j.draft.ino (i / 4096) i ∙ job.rest i below past;
           within = job.within;
+          parts = job.parts;
+          placed = λ i front. subst IsSome (sym (disk_same j.draft.ino (i / 4096) other)) (job.placed i front);
           staging = (line j.draft.staging).kind ∙ job.staging;
           staged = λ k below. subst (λ es. IsSome (disk_at es (j.draft.staging_block + k))) (sym there) (job.staged k below);
           apart = job.apart;

@@ -111,6 +111,8 @@ jobs_in_place v live f g numbers s new ino bytes sane log writes (j ∷ jobs) of
         size = job.size;
         rest = λ i below past. other_bytes v live f g ino bytes sane log writes j.draft.ino (i / 4096) i (live_used v j.draft job.alive) other ∙ job.rest i below past;
         within = job.within;
+        parts = job.parts;
+        placed = job.placed;
         staging = job.staging;
         staged = job.staged;
         apart = job.apart;

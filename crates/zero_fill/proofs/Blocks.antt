@@ -64,7 +64,7 @@ module _ (k l : View) (files : Files) (ino from : ℕ) (some : HasFile k files i
         let r = stands has.g k l has.t (with_files has.kept files) has.lines has.n has.s ino from staging block has.stands (may_zero staging block at has) done in
         record { now = r.0; jobs_are = r.1; numbers_are = r.2 };
     zero = zeroed some.g k l some.t (with_files some.kept files) some.lines some.n some.s ino (size_in files ino) from staging (staged_place block from) some.stands some.file
-        (staging_there some.g k some.t (with_files some.kept files) some.lines some.n some.s ino from staging block some.stands (may_zero staging block at some))
+        (staging_there some.g k some.t (with_files some.kept files) some.lines some.n some.s ino from staging block some.stands (record { file = some.file; at = at }))
         (ap (disk_at (extents k.volume staging)) (place_in_block block from).0 ∙ ap (λ o. block_of k.volume (source_by o (disk_at (extents k.volume ino) (from / 4096)))) (sym at))
         (place_in_block block from).1 done zero;
   }

@@ -65,6 +65,8 @@ module _ (v : Volume) (live : List Draft) (f g : Words) (log : LogStands v live)
       size = out.0.size;
       rest = λ i below beside. keeps j.draft.ino (i / 4096) i (live_used v j.draft out.0.alive) refl (λ own. absurd (others j (inl refl) own)) ∙ out.0.rest i below beside;
       within = out.0.within;
+      parts = out.0.parts;
+      placed = out.0.placed;
       staging = out.0.staging;
       staged = out.0.staged;
       apart = out.0.apart;

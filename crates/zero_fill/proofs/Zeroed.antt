@@ -41,7 +41,7 @@ use Rattle.live_step_laws.specs.volume_laws.LineWords.{data_word, data_word-not_
 use Rattle.live_step_laws.specs.world_write_laws.PlaceSteps.{staging_below}
 use Rattle.live_step_laws.specs.world_model.Latest.{latest-In}
 use Rattle.live_step_laws.specs.world_model.Lent.{in_data}
-use Rattle.live_step_laws.specs.world_model.Jobs.{live_claims}
+use Rattle.live_step_laws.specs.world_model.Jobs.{Job, live_claims}
 use Rattle.live_step_laws.specs.world_step_laws.Worlds.{IsWorld}
 use Rattle.live_step_laws.specs.world_image_laws.Changed.{ShowsLog-same, sound_headed}
 use Rattle.live_step_laws.specs.world_image_laws.Images.{HasLogHome, IsHeaded, ShowsWorld}
@@ -50,8 +50,8 @@ use Rattle.live_step_laws.specs.world_image_laws.Flights.{image_of, kept_leading
 use Rattle.live_step_laws.specs.world_image_laws.InLog.{put_in_log, slots_in_log}
 use Rattle.write_plan.specs.live_model.Standing.{file_state, Kept, LinesStand, StandsAt}
 use Rattle.live_step_laws.proofs.Words.{headed_changed, same_log}
-use Rattle.zero_fill.specs.ZerosLaws.{KeepsZeroed, StandsToZero, StandsZeroed}
-use Rattle.zero_fill.specs.Zeros.{MayZero, staged_place}
+use Rattle.zero_fill.specs.ZerosLaws.{KeepsZeroed, StandsToPlace, StandsToZero, StandsZeroed}
+use Rattle.zero_fill.specs.Zeros.{IsStagedAt, MayZero, staged_place}
 use Rattle.zero_fill.proofs.Places.{in_data_tail, old_or_new, same_but, tail_blocks}
 use Rattle.zero_fill.proofs.ZerosReading.{place_of, SameBut, world_but}
 
@@ -183,12 +183,12 @@ within_from first count i is = (grind (arith, nat_tests, is), grind (arith, nat_
 draft_staging : (d : Draft) → is_draft d ≡ true → (1 ≤ d.staging) × (d.staging ≤ 4)
 draft_staging d is = (grind (arith, nat_tests), grind (arith, nat_tests))
 
-module _ (g : Geometry) (k : View) (t : Tables) (kept : Kept) (lines : Bool) (n : ℕ) (s : State) (ino from staging block : ℕ) (stands : StandsAt g k t kept lines n s) (may : MayZero k kept stands.jobs ino from staging block) where
+module _ (g : Geometry) (k : View) (t : Tables) (kept : Kept) (lines : Bool) (n : ℕ) (s : State) (ino from staging block : ℕ) (stands : StandsAt g k t kept lines n s) (staged : IsStagedAt k kept ino from staging block) where
   world_now : IsWorld k.volume kept.claims stands.jobs (journaled (words_of k.cells)) stands.numbers s stands.count
   world_now = stands.flying.device.world (words_of k.cells) (IsImage-words_of k.cells)
 
   source_is : source_of (runs_in kept.files ino) (extents k.volume ino) (from / 4096) ≡ Staged staging block
-  source_is = ap (λ o. source_by o (disk_at (extents k.volume ino) (from / 4096))) may.at
+  source_is = ap (λ o. source_by o (disk_at (extents k.volume ino) (from / 4096))) staged.at
 
   entry_of : (o : Option Draft) (disk : Option ℕ) → source_by (option_map (place_in (from / 4096)) (option_map run_of o)) disk ≡ Staged staging block
       → (e : Draft) × (o ≡ Some e) × (e.staging ≡ staging) × (place_of e (from / 4096) ≡ block)
@@ -199,7 +199,7 @@ module _ (g : Geometry) (k : View) (t : Tables) (kept : Kept) (lines : Bool) (n 
   pub entry : HasEntry k kept ino (from / 4096) staging block
   entry =
       let live = live_claims k.volume kept.claims in
-      let log_is = source_is_log k.volume live ino (size_in kept.files ino) (runs_in kept.files ino) (from / 4096) world_now.valid.stands.log (stands.flying.overlays ino may.file) in
+      let log_is = source_is_log k.volume live ino (size_in kept.files ino) (runs_in kept.files ino) (from / 4096) world_now.valid.stands.log (stands.flying.overlays ino staged.file) in
       let found = entry_of (entry_of_block live ino (from / 4096)) (disk_at (extents k.volume ino) (from / 4096)) (sym log_is ∙ source_is) in
       let chosen = filter-In (λ (z : Draft). (z.ino == ino) && is_within z.file_block z.count (from / 4096)) live found.0 (latest-In _ found.0 found.1) in
       let tests = and_parts (found.0.ino == ino) (is_within found.0.file_block found.0.count (from / 4096)) chosen.1 in
@@ -215,17 +215,17 @@ module _ (g : Geometry) (k : View) (t : Tables) (kept : Kept) (lines : Bool) (n 
   pub staging_there : staging < length k.volume.inodes
   staging_there = subst (λ m. m < length k.volume.inodes) entry.staging_is (staging_below k.volume entry.e.staging (world_now.valid.stands.log.staging entry.e entry.there))
 
-  ends : size_of k.volume (live_claims k.volume kept.claims) entry.e.ino ≤ from
-  ends =
+  ends : size_in kept.files ino ≤ from → size_of k.volume (live_claims k.volume kept.claims) entry.e.ino ≤ from
+  ends behind =
       subst (λ m. size_of k.volume (live_claims k.volume kept.claims) m ≤ from) (sym entry.ino_is)
-      (let size = stands.sizes.files ino may.file in let behind = may.behind in omega (arith, size, behind))
+      (let size = stands.sizes.files ino staged.file in omega (arith, size, behind))
 
-  -- the World reads none of the bytes
-  pub goes_on : (f h : Words) → SameBut k.volume staging (staged_place block from / 4096) (staged_place block from % 4096) f h
+  -- behind the end the World reads none of the bytes
+  pub goes_on : MayZero k kept stands.jobs ino from staging block → (f h : Words) → SameBut k.volume staging (staged_place block from / 4096) (staged_place block from % 4096) f h
       → IsWorld k.volume kept.claims stands.jobs f stands.numbers s stands.count → IsWorld k.volume kept.claims stands.jobs h stands.numbers s stands.count
-  goes_on f h same world_is =
+  goes_on may f h same world_is =
       let at = place_in_block block from in
-      world_but k.volume kept.claims stands.jobs f h stands.numbers s stands.count entry.e from entry.there entry.covers ends
+      world_but k.volume kept.claims stands.jobs f h stands.numbers s stands.count entry.e from entry.there entry.covers (ends may.behind)
       (λ j is own. may.others j is (own ∙ entry.ino_is))
       (record {
         each = λ y m b i y_below leads within first. same.each y m b i y_below leads within (λ own there.
@@ -265,24 +265,30 @@ module _ (g : Geometry) (k : View) (t : Tables) (kept : Kept) (lines : Bool) (n 
         (subst (λ m. is_journaled_line k.volume.geometry (m / 8) ≡ false) same (data_word-not_journaled k.volume.geometry b (i % 512) data_is (omega arith)))
 
     home : (i : ℕ) → i / 512 ≡ b → is_lent (cell k.cells i) ≡ false
-    home i word = ((flies_readable k.volume k.cells kept.claims stands.jobs (file_state kept.files) stands.numbers s stands.count ino stands.flying may.file (from / 4096)).readable b (ap (block_of k.volume) source_is ∙ is)).home i word
+    home i word = ((flies_readable k.volume k.cells kept.claims stands.jobs (file_state kept.files) stands.numbers s stands.count ino stands.flying staged.file (from / 4096)).readable b (ap (block_of k.volume) source_is ∙ is)).home i word
 
-pub stands_to_zero : StandsToZero
-stands_to_zero g k t kept lines n s ino from staging block stands may =
-    let has = entry g k t kept lines n s ino from staging block stands may in
+pub stands_to_place : StandsToPlace
+stands_to_place g k t kept lines n s ino from staging block stands staged =
+    let has = entry g k t kept lines n s ino from staging block stands staged in
     let low = within_from has.e.file_block has.e.count (from / 4096) has.covers in
-    lends g k t kept lines n s ino from staging block stands may (disk_at (extents k.volume staging) block) refl
+    lends g k t kept lines n s ino from staging block stands staged (disk_at (extents k.volume staging) block) refl
     (subst (λ m. IsSome (disk_at (extents k.volume m) block)) has.staging_is
     (subst (λ m. IsSome (disk_at (extents k.volume has.e.staging) m)) has.place_is
-    ((world_now g k t kept lines n s ino from staging block stands may).valid.stands.log.staged has.e has.there (from / 4096 - has.e.file_block) low.1)))
+    ((world_now g k t kept lines n s ino from staging block stands staged).valid.stands.log.staged has.e has.there (from / 4096 - has.e.file_block) low.1)))
+
+staged_of : (k : View) (kept : Kept) (jobs : List Job) (ino from staging block : ℕ) → MayZero k kept jobs ino from staging block → IsStagedAt k kept ino from staging block
+staged_of k kept jobs ino from staging block may = record { file = may.file; at = may.at }
+
+pub stands_to_zero : StandsToZero
+stands_to_zero g k t kept lines n s ino from staging block stands may = stands_to_place g k t kept lines n s ino from staging block stands (staged_of k kept stands.jobs ino from staging block may)
 
 -- ---- done
 
 pub stands_zeroed : StandsZeroed
 stands_zeroed g k l t kept lines n s ino from staging block stands may done =
     subst (λ y. (now : StandsAt g y t kept lines n s) × (now.jobs ≡ stands.jobs) × (now.numbers ≡ stands.numbers)) (sym done.same)
-    (now_zeroed g k l.cells t kept lines n s stands staging (staged_place block from) (staging_there g k t kept lines n s ino from staging block stands may) done.over
-    (goes_on g k t kept lines n s ino from staging block stands may) (subst IsInOrder done.same done.order) done.singles)
+    (now_zeroed g k l.cells t kept lines n s stands staging (staged_place block from) (staging_there g k t kept lines n s ino from staging block stands (staged_of k kept stands.jobs ino from staging block may)) done.over
+    (goes_on g k t kept lines n s ino from staging block stands (staged_of k kept stands.jobs ino from staging block may) may) (subst IsInOrder done.same done.order) done.singles)
 
 -- ---- cut off
 
@@ -294,11 +300,11 @@ keeps_zeroed g k l t kept lines n start history c ino from staging block stands 
     is_image = image_of l.cells back image put.image_is
 
     below : staging < length k.volume.inodes
-    below = staging_there g k t kept lines n (run start history) ino from staging block stands may
+    below = staging_there g k t kept lines n (run start history) ino from staging block stands (staged_of k kept stands.jobs ino from staging block may)
 
     goes : (f h : Words) → SameBut k.volume staging (staged_place block from / 4096) (staged_place block from % 4096) f h
         → IsWorld k.volume kept.claims stands.jobs f stands.numbers (run start history) stands.count → IsWorld k.volume kept.claims stands.jobs h stands.numbers (run start history) stands.count
-    goes = goes_on g k t kept lines n (run start history) ino from staging block stands may
+    goes = goes_on g k t kept lines n (run start history) ino from staging block stands (staged_of k kept stands.jobs ino from staging block may) may
 
     from_one : (before : Words) × ComesFrom k.cells image before × IsWrittenOver k.volume k.volume staging (staged_place block from) (tail_zeros k.volume staging (staged_place block from)) before image
     from_one = source g k l.cells t kept lines n (run start history) stands staging (staged_place block from) below cut.over goes image is_image

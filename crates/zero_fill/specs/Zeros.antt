@@ -28,6 +28,11 @@ block_end from = 4096 * (from / 4096) + 4096
 abbrev pub staged_place : ℕ → ℕ → ℕ
 staged_place block from = 4096 * block + from % 4096
 
+-- A BLOCK OF A FILE IS STAGED HERE: that of a place of the file is this block of a staging file.
+pub record IsStagedAt (k : View) (kept : Kept) (ino from staging block : ℕ) : Type 0 where
+  pub file : (inode k.volume ino).kind ≡ File
+  pub at : staged_at (runs_in kept.files ino) (from / 4096) ≡ Some (staging, block)
+
 -- A STAGED BLOCK MAY BE ZEROED from a place of its file on: the file ends there or before, by what is kept of it, the block of the
 -- place is this one of a staging file, and no job that is out is of the file.
 pub record MayZero (k : View) (kept : Kept) (jobs : List Job) (ino from staging block : ℕ) : Type 0 where

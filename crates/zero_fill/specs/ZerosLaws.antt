@@ -15,11 +15,18 @@ use Rattle.live_step_laws.specs.posix_spec.Run.{Unfinished, run}
 use Rattle.live_step_laws.specs.posix_spec.State.{State}
 use Rattle.write_plan.specs.live_model.Losses.{KeepsWhenLost}
 use Rattle.write_plan.specs.live_model.Standing.{Kept, StandsAt}
-use Rattle.zero_fill.specs.Zeros.{block_end, MayZero, ReadZero, staged_place}
+use Rattle.zero_fill.specs.Zeros.{IsStagedAt, block_end, MayZero, ReadZero, staged_place}
 
 -- ---- a staged block
 
--- A staged block can be written in place.
+-- A staged block can be written in place,
+abbrev pub StandsToPlace : Type 0
+StandsToPlace =
+    (g : Geometry) (k : View) (t : Tables) (kept : Kept) (lines : Bool) (n : ℕ) (s : State) (ino from staging block : ℕ)
+    → StandsAt g k t kept lines n s → IsStagedAt k kept ino from staging block
+    → (b : ℕ) × MayLend k.volume k.cells staging block b
+
+-- and so where it may be zeroed.
 abbrev pub StandsToZero : Type 0
 StandsToZero =
     (g : Geometry) (k : View) (t : Tables) (kept : Kept) (lines : Bool) (n : ℕ) (s : State) (ino from staging block : ℕ)

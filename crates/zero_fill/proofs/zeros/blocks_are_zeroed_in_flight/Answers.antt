@@ -1,6 +1,9 @@
 use Rattle.zero_fill.proofs.ZeroReads.{zeroed_read_zero}
-use Rattle.zero_fill.proofs.Zeroed.{keeps_zeroed, stands_to_zero, stands_zeroed}
+use Rattle.zero_fill.proofs.Zeroed.{keeps_zeroed, stands_to_place, stands_to_zero, stands_zeroed}
 use Rattle.zero_fill.proofs.zeros.blocks_are_zeroed_in_flight.Goals as goal
+
+pub returns-clause-place : goal.returns-clause-place
+returns-clause-place c = stands_to_place
 
 pub returns-clause-may : goal.returns-clause-may
 returns-clause-may c = stands_to_zero

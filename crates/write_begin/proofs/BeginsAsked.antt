@@ -1,5 +1,5 @@
 -- A write that no row refuses, and that finds room, goes to its target.
-use Rattle.std.specs.Prelude.{◌≡◌, ◌≤◌, ◌+◌, ◌-◌, ℕ, true, List, [], ◌∷◌, length, Option, None, Some, option_map, refl}
+use Rattle.std.specs.Prelude.{◌≡◌, ◌≤◌, ◌<◌, ◌+◌, ◌-◌, ℕ, true, List, [], ◌∷◌, length, drop, Option, None, Some, option_map, refl}
 use Rattle.std.specs.Option.{option_map_or}
 use Rattle.std.proofs.Common.{arith, ap, ◌∙◌, sym, subst, inl, inr}
 use Rattle.write_plan.specs.pm_model.ImageLaws.{IsImage-words_of}
@@ -70,7 +70,7 @@ module _ (t : Tables) (files : Files) (who : Who) (h : Handle) (at : Option ℕ)
   own_need = (λ i. write_need Mode.Strict (own_size i) (is.start_is i) (is.start_is i + len))
 
   -- the target finds room, as all files leave it
-  pub has_room : (v : Volume) (taken : ℕ) → FilesEnd v files → need_in Mode.Strict t files who h at len ≤ room_in (data_blocks v.geometry) files - taken → HasRoom v files target len
+  pub has_room : (v : Volume) (taken : ℕ) → FilesEnd v files → need_in Mode.Strict t files who h at len ≤ room_in (data_blocks v.geometry) files - taken → HasRoom Mode.Strict v files target len
   has_room v taken ends fits = record { ends = ends; room = subst (λ n. n ≤ room_in (data_blocks v.geometry) files) (sym own_need) (omega (arith, fits)) }
 
 -- ---- the call
@@ -123,6 +123,9 @@ module _ (kept_law : StandsAsKept) (room_law : RoomIsKept) (k : View) (t : Table
       pub node_is : handle_node found.s who h ≡ Some (number found.stands.numbers target.ino)
       node_is = ap (λ (o : Option Description). option_map (λ d. d.node) o) opened_is ∙ ap (λ n. Some (number found.stands.numbers n)) (sym is.ino_is)
 
+      pub start_same : start_of found.s who h at ≡ target.start
+      start_same = start_is ∙ sym is.start_is
+
       abbrev pub goes_of : need_in Mode.Strict t files who h at (length x) ≤ room_in (data_blocks k.volume.geometry) files - taken → Goes k staging files who target x
       goes_of fits = record {
         g = found.g;
@@ -134,8 +137,16 @@ module _ (kept_law : StandsAsKept) (room_law : RoomIsKept) (k : View) (t : Table
         call = call_of h at x;
         stands = found.stands;
         opened = subst (λ n. is_open t n ≡ true) (sym is.ino_is) (handle_open t who h is.file is.known);
-        puts = puts_of found.s who h at x none
-            ∙ (λ i. (let put : Put = record { node = number_is i; place = (start_is ∙ sym is.start_is) i; bytes = x } in Some put));
+        puts = record {
+          put = record { node = file_number found.s.tables who h; place = start_of found.s who h at; bytes = x };
+          is = puts_of found.s who h at x none;
+          node_is = number_is;
+          place = omega (arith, start_same);
+          bytes = ap (λ n. drop n x) {x = 0} {y = target.start - start_of found.s who h at} (omega (arith, start_same));
+          front = λ before. absurd (omega (arith, start_same, before));
+          strict = λ strict. start_same;
+        };
+        present = λ i high low. absurd (omega (arith, start_same, high, low));
         fits = (let taken_is = found.taken_is in let all = afforded in omega (arith, fits, taken_is, all, room_is, need_is));
         others = λ j there own.
             (lets_one found.s (who, call_of h at x) found.stands.numbers found.stands.jobs found.beside j there).1

@@ -2,7 +2,6 @@
 use Rattle.std.specs.Prelude.{◌≡◌, ◌≤◌, ℕ, true, List, length, refl, Result, Ok, Err}
 use Rattle.std.specs.declared.alloc.AllocError.{AllocError}
 use Rattle.std.proofs.Common.{ap, ◌∙◌, sym}
-use Rattle.posix_types.specs.declared.call.Mode.{Mode}
 use Rattle.write_plan.specs.pm_model.Powers.{is_on, Supply}
 use Rattle.write_plan.specs.layout_model.block_counts.declared.TheConstants.{LONGEST_FILE}
 use Rattle.write_plan.specs.layout_model.declared.lines.Kind.TheVariants.{File}
@@ -17,16 +16,16 @@ use Rattle.posix_types.specs.declared.call.Who.{Who}
 use Rattle.live_step_laws.specs.staging_files.declared.runs.StageRun.{StageRun}
 use Rattle.live_step_laws.specs.staging_files.Keeps.{Staged}
 use Rattle.write_plan.specs.declared.asks.asking.Target.{Target}
-use Rattle.write_plan.specs.Drafts.{staged_count}
+use Rattle.write_plan.specs.eof_laws.block_io.Overwrites.{blocks_reached}
 use Rattle.write_begin.specs.declared.begins.beginning.WriteBegun.{WriteBegun}
 use Rattle.write_begin.specs.Begins.{IsPaid}
-use Rattle.write_begin.specs.Goes.{FitsTarget, Goes, IsGone, IsJobBegun, KeepsMaps}
+use Rattle.write_begin.specs.Goes.{FitsTarget, Goes, IsGone, IsJobBegun, KeepsMaps, reached_run}
 use Rattle.write_begin.proofs.Runs.{becomes_job, goes_back, IsRun}
 
 -- with its run it is a job, or the run goes back
 pub gone_ok : (k l m p : View) (old new last : Staged) (files : Files) (who : Who) (target : Target) (x : List ℕ) (count : ℕ) (taken : StageRun) → StandsReserved → 1 ≤ count → count ≤ 33 → IsRun count old k new l taken
-    → Clears target.ino files l m (block_start target.start) → FitsTarget files target (length x) → target.size ≤ LONGEST_FILE → count ≡ staged_count Mode.Strict target.size target.start (length x) → 3 ≤ spare_in files target.ino
-    → Goes k old files who target x → (result : Result WriteBegun AllocError) → IsJobBegun m p new last files who target x taken result → IsGone k p old last files files who target x result
+    → Clears target.ino files l m (block_start target.start) → FitsTarget files target (length x) → target.size ≤ LONGEST_FILE → count ≡ blocks_reached target.start (length x) → 3 ≤ spare_in files target.ino
+    → Goes k old files who target x → (result : Result WriteBegun AllocError) → IsJobBegun m p new last files who target x taken result → IsGone k p old last files files who target x (reached_run target (length x)) result
 gone_ok k l m p old new last files who target x count taken law some few answer clears fits small count_is spare goes (Ok (WriteBegun.Answered outcome)) is = absurd is
 gone_ok k l m p old new last files who target x count taken law some few answer clears fits small count_is spare goes (Ok (WriteBegun.Job job blocks)) is =
     becomes_job k l old new files who target x count taken law some few answer m clears p last job blocks.items fits small count_is spare goes is

@@ -1,4 +1,5 @@
 pub mod Numbers
+mod Present
 pub mod Plans
 pub mod Making
 pub mod Staged

@@ -1,5 +1,5 @@
 -- No run is reserved for a write: the power goes, or there is none.
-use Rattle.std.specs.Prelude.{◌≡◌, ◌≢◌, ◌≤◌, ◌∷◌, [], ℕ, true, List, length, Result, Err}
+use Rattle.std.specs.Prelude.{◌≡◌, ◌≢◌, ◌≤◌, ◌/◌, ◌∷◌, [], ℕ, true, List, length, refl, Result, Err}
 use Rattle.std.proofs.Common.{ap, ◌∙◌, sym, subst, inl, inr}
 use Rattle.posix_types.specs.declared.call.Mode.{Mode}
 use Rattle.write_plan.specs.file_table.Files.{Files}
@@ -17,10 +17,11 @@ use Rattle.live_step_laws.specs.staging_files.Reserves.{AreSame, IsLacking, IsRe
 use Rattle.live_step_laws.specs.live_model.Losses.{KeepsWhenLost}
 use Rattle.live_step_laws.specs.live_model.Standing.{StandsAt}
 use Rattle.write_plan.specs.declared.asks.asking.Target.{Target}
-use Rattle.write_plan.specs.Drafts.{staged_count}
+use Rattle.write_plan.specs.eof_laws.block_io.Overwrites.{blocks_reached}
+use Rattle.write_begin.proofs.Plans.{strict_staged}
 use Rattle.zero_fill.proofs.Lost.{left_off}
 use Rattle.write_begin.specs.Stages.{with_parts}
-use Rattle.write_begin.specs.Goes.{Goes, GoesNoFurther, HasRoom, IsBareAtRest, LacksRun, LosesTarget}
+use Rattle.write_begin.specs.Goes.{Goes, GoesNoFurther, HasRoom, IsBareAtRest, LacksRun, LosesTarget, reached_run}
 
 -- what the reserve answers where the power is off
 abbrev pub IsLost : ℕ → Staged → View → Staged → View → Type 0
@@ -54,19 +55,22 @@ goes_same k l old new files who target x same = record {
 }
 
 -- where nothing is staged, there is one
-pub first_fits : (k : View) (staging : Staged) (files : Files) (who : Who) (target : Target) (x : List ℕ) (count need left : ℕ) → FirstWriteFits → Goes k staging files who target x → HasRoom k.volume files target (length x) → 1 ≤ length x
-    → count ≡ staged_count Mode.Strict target.size target.start (length x) → staging ≡ nothing_staged → IsLacking count staging k need left → ⊥
+pub first_fits : (k : View) (staging : Staged) (files : Files) (who : Who) (target : Target) (x : List ℕ) (count need left : ℕ) → FirstWriteFits → Goes k staging files who target x → HasRoom Mode.Strict k.volume files target (length x) → 1 ≤ length x
+    → count ≡ blocks_reached target.start (length x) → staging ≡ nothing_staged → IsLacking count staging k need left → ⊥
 first_fits k staging files who target x count need left law goes has some count_is fresh lacks =
-    law goes.g k goes.t (with_parts goes.kept staging files) true goes.n goes.s target.size target.start (length x) need left goes.stands fresh has.ends some has.room
+    law goes.g k goes.t (with_parts goes.kept staging files) true goes.n goes.s Mode.Strict target.size target.start (length x) need left (target.start / 4096, blocks_reached target.start (length x)) goes.stands fresh has.ends has.room
+    (strict_staged target.size target.start (length x) some)
     (subst (λ n. IsLacking n staging k need left) count_is lacks)
 
 -- a staging of which a run is out
 pub late_of : (old new : Staged) → new ≡ old → IsBareAtRest old → (new ≡ nothing_staged → ⊥) → old.out ≢ []
 late_of old new same bare staged none = staged (same ∙ bare none)
 
-pub lacks_run : (k l : View) (old new : Staged) (files : Files) (who : Who) (target : Target) (x : List ℕ) (count need left : ℕ) → count ≡ staged_count Mode.Strict target.size target.start (length x) → old.out ≢ []
-    → IsLacking count old k need left → AreSame old new k l → LacksRun k l old new files files who target x need left
+pub lacks_run : (k l : View) (old new : Staged) (files : Files) (who : Who) (target : Target) (x : List ℕ) (count need left : ℕ) → count ≡ blocks_reached target.start (length x) → old.out ≢ []
+    → IsLacking count old k need left → AreSame old new k l → LacksRun k l old new files files who target x (reached_run target (length x)) need left
 lacks_run k l old new files who target x count need left count_is late lacks same = record {
+  needed = (target.start / 4096, blocks_reached target.start (length x));
+  run_is = refl;
   lacks = subst (λ n. IsLacking n old k need left) count_is lacks;
   late = late;
   same = same.staging;

@@ -3,7 +3,6 @@ use Rattle.std.specs.Prelude.{◌≡◌, ◌≢◌, ◌⊎◌, ◌≤◌, ◌<�
 use Rattle.std.proofs.Common.{arith, ap, ◌∙◌, sym, subst, inl, inr}
 use Rattle.std.proofs.lemmas.Bool.Decides.{nat_tests}
 use Rattle.std.proofs.lemmas.Option.{same_Some}
-use Rattle.posix_types.specs.declared.call.Mode.{Mode}
 use Rattle.write_jobs.specs.pm_model.declared.Cell.{Cell}
 use Rattle.write_jobs.specs.pm_model.Cells.{cell, is_single}
 use Rattle.write_jobs.specs.pm_model.ImageLaws.{IsImage-words_of}
@@ -33,7 +32,8 @@ use Rattle.write_jobs.specs.world_model.Stands.{entries_of, is_used, IsSane}
 use Rattle.write_jobs.specs.world_step_laws.Worlds.{IsWorld}
 use Rattle.write_jobs.specs.Loans.{AreLoansOf, MayLendAll}
 use Rattle.write_plan.specs.declared.asks.asking.Target.{Target}
-use Rattle.write_plan.specs.Drafts.{draft_in, DraftsAreNext, IsNextEntry, order_behind, staged_count}
+use Rattle.write_plan.specs.Drafts.{draft_in, DraftsAreNext, IsNextEntry, order_behind}
+use Rattle.write_plan.specs.eof_laws.block_io.Overwrites.{blocks_reached}
 use Rattle.write_jobs.specs.Contents.{SpellBytes}
 use Rattle.write_jobs.specs.Jobs.{AreOfEntry, AreSingle, loan_at}
 use Rattle.write_plan.specs.Words.{old_in, staged_in, StandsReadable}
@@ -43,7 +43,7 @@ use Rattle.write_begin.specs.Stages.{Ready, with_parts}
 within_from : (first count i : ℕ) → i < count → is_within first count (first + i) ≡ true
 within_from first count i below = grind (arith, nat_tests)
 
-few_staged : (start len : ℕ) → 1 ≤ len → len ≤ 131072 → (1 ≤ staged_count Mode.Strict 0 start len) × (staged_count Mode.Strict 0 start len ≤ 33) × (start + len ≤ 4096 * (start / 4096 + staged_count Mode.Strict 0 start len))
+few_staged : (start len : ℕ) → 1 ≤ len → len ≤ 131072 → (1 ≤ blocks_reached start len) × (blocks_reached start len ≤ 33) × (start + len ≤ 4096 * (start / 4096 + blocks_reached start len))
 few_staged start len some most = (omega (arith, some), omega (arith, most), omega (arith, some))
 
 small_start : (start len : ℕ) → start + len ≤ LONGEST_FILE → start + len ≤ 16777216
@@ -82,7 +82,7 @@ module _ (k : View) (files : Files) (who : Who) (target : Target) (x : List ℕ)
   pub staging_file : IsStagingFile run.staging k.volume
   staging_file = staging-file k.volume run.staging ready.stands.order.whole placed.staging
 
-  pub count_is : run.count ≡ staged_count Mode.Strict target.size target.start (length x)
+  pub count_is : run.count ≡ blocks_reached target.start (length x)
   count_is = ready.has_run.count_is
 
   pub few : (1 ≤ run.count) × (run.count ≤ 33) × (target.start + length x ≤ 4096 * (target.start / 4096 + run.count))

@@ -1,15 +1,15 @@
 -- Places of a write in its blocks, and runs that share none.
-use Rattle.std.specs.Prelude.{◌≡◌, ◌≢◌, ◌⊎◌, ◌≤◌, ◌<◌, ◌+◌, ◌-◌, ◌*◌, ◌/◌, ℕ, true, false, cond, nat_lt, Bool, List, length, slice_index, refl}
+use Rattle.std.specs.Prelude.{◌≡◌, ◌≢◌, ◌⊎◌, ◌≤◌, ◌<◌, ◌+◌, ◌-◌, ◌*◌, ◌/◌, ℕ, true, false, cond, nat_lt, Bool, List, drop, length, slice_index, refl}
 use Rattle.std.proofs.Common.{arith, ap, ◌∙◌, sym, inl, inr}
 use Rattle.std.proofs.lemmas.Bool.{cases_lt}
 use Rattle.std.proofs.lemmas.Bool.Decides.{nat_tests}
-use Rattle.posix_types.specs.declared.call.Mode.{Mode}
 use Rattle.write_jobs.specs.extent_model.Extents.{is_within}
-use Rattle.posix_laws.proofs.ByteLaws.{index-overwritten}
+use Rattle.std.proofs.lemmas.List.{get_or-drop, length-drop}
+use Rattle.posix_laws.proofs.ByteLaws.{index-overwritten, length-overwritten}
 use Rattle.posix_tables.specs.Bytes.{overwritten}
 use Rattle.live_step_laws.specs.staging_files.declared.runs.StageRun.{StageRun}
 use Rattle.live_step_laws.specs.staging_files.Keeps.{AreApart, has_block}
-use Rattle.write_plan.specs.Drafts.{staged_count}
+use Rattle.write_plan.specs.eof_laws.block_io.Overwrites.{blocks_reached}
 
 -- ---- blocks of a write
 
@@ -20,19 +20,19 @@ not_below : (i m : ℕ) → m ≤ i → nat_lt i m ≡ false
 not_below i m past = grind (arith, nat_tests)
 
 -- the new bytes lie in the blocks
-in_blocks : (start len i : ℕ) → 1 ≤ len → start ≤ i → i < start + len → i / 4096 < start / 4096 + staged_count Mode.Strict 0 start len
+in_blocks : (start len i : ℕ) → 1 ≤ len → start ≤ i → i < start + len → i / 4096 < start / 4096 + blocks_reached start len
 in_blocks start len i some high low = omega (arith, some, high, low)
 
 within_is : (first count b : ℕ) → first ≤ b → b < first + count → is_within first count b ≡ true
 within_is first count b high low = grind (arith, nat_tests)
 
 -- a byte in none of them is before the write or behind it
-pub beside_write : (start len i : ℕ) → 1 ≤ len → is_within (start / 4096) (staged_count Mode.Strict 0 start len) (i / 4096) ≡ false → (i < start) ⊎ (start + len ≤ i)
+pub beside_write : (start len i : ℕ) → 1 ≤ len → is_within (start / 4096) (blocks_reached start len) (i / 4096) ≡ false → (i < start) ⊎ (start + len ≤ i)
 beside_write start len i some outside = elim (cases_lt i start) [
   | inl low ↦ inl low
   | inr high ↦ elim (cases_lt i (start + len)) [
     | inl below ↦ (
-        let inside = within_is (start / 4096) (staged_count Mode.Strict 0 start len) (i / 4096) (omega (arith, high)) (in_blocks start len i some high below) in
+        let inside = within_is (start / 4096) (blocks_reached start len) (i / 4096) (omega (arith, high)) (in_blocks start len i some high below) in
         let never : true ≡ false = sym inside ∙ outside in
         cc)
     | inr past ↦ inr past
@@ -40,13 +40,13 @@ beside_write start len i some outside = elim (cases_lt i start) [
 ]
 
 -- and if it is before, its block is before that of the first byte
-pub before_write : (start len i : ℕ) → 1 ≤ len → is_within (start / 4096) (staged_count Mode.Strict 0 start len) (i / 4096) ≡ false → i < start → i < 4096 * (start / 4096)
+pub before_write : (start len i : ℕ) → 1 ≤ len → is_within (start / 4096) (blocks_reached start len) (i / 4096) ≡ false → i < start → i < 4096 * (start / 4096)
 before_write start len i some outside low = elim (cases_lt i (4096 * (start / 4096))) [
   | inl early ↦ early
   | inr late ↦ (
       let one : i / 4096 ≡ start / 4096 = omega (arith, late, low) in
       let first = in_blocks start len start some (omega arith) (omega (arith, some)) in
-      let inside = within_is (start / 4096) (staged_count Mode.Strict 0 start len) (i / 4096) (omega (arith, one)) (omega (arith, one, first)) in
+      let inside = within_is (start / 4096) (blocks_reached start len) (i / 4096) (omega (arith, one)) (omega (arith, one, first)) in
       let never : true ≡ false = sym inside ∙ outside in
       cc)
 ]
@@ -59,6 +59,38 @@ same_beside old new start i (inr high) =
     index-overwritten old start new i
     ∙ (ap (λ t. cond t (slice_index old i) (cond (nat_lt i (start + length new)) (slice_index new (i - start)) (slice_index old i))) (not_below i start (omega (arith, high)))
     ∙ ap (λ t. cond t (slice_index new (i - start)) (slice_index old i)) (not_below i (start + length new) high))
+
+-- and among them a new one
+pub written_there : (old new : List ℕ) (start i : ℕ) → start ≤ i → i < start + length new → slice_index (overwritten old start new) i ≡ slice_index new (i - start)
+written_there old new start i high low =
+    index-overwritten old start new i
+    ∙ (ap (λ t. cond t (slice_index old i) (cond (nat_lt i (start + length new)) (slice_index new (i - start)) (slice_index old i))) (not_below i start high)
+    ∙ ap (λ t. cond t (slice_index new (i - start)) (slice_index old i)) (below_is i (start + length new) low))
+
+-- ---- a part of a write
+
+module _ (old bytes : List ℕ) (place start : ℕ) (after : place ≤ start) (within : start ≤ place + length bytes) where
+  abbrev part : List ℕ
+  part = drop (start - place) bytes
+
+  part_end : start + length part ≡ place + length bytes
+  part_end = omega (arith, length-drop (start - place) bytes, after, within)
+
+  -- the part over the old bytes has the length that the whole has,
+  pub part_length : length (overwritten old start part) ≡ length (overwritten old place bytes)
+  part_length = omega (arith, length-overwritten old start part, length-overwritten old place bytes, part_end)
+
+  -- and is as the whole, but between the write's place and its own
+  pub part_beside : (i : ℕ) → (i < place) ⊎ (start ≤ i) → slice_index (overwritten old start part) i ≡ slice_index (overwritten old place bytes) i
+  part_beside i (inl before) = same_beside old part start i (inl (omega (arith, before, after))) ∙ sym (same_beside old bytes place i (inl before))
+  part_beside i (inr behind) = elim (cases_lt i (place + length bytes)) [
+    | inl inside ↦ (
+        let same : start - place + (i - start) ≡ i - place = omega (arith, after, behind) in
+        written_there old part start i behind (omega (arith, inside, part_end))
+        ∙ (get_or-drop (start - place) bytes (i - start) 0 ∙ ap (λ n. slice_index bytes n) same)
+        ∙ sym (written_there old bytes place i (omega (arith, after, behind)) inside))
+    | inr past ↦ same_beside old part start i (inr (omega (arith, past, part_end))) ∙ sym (same_beside old bytes place i (inr past))
+  ]
 
 -- ---- runs
 

@@ -1,5 +1,5 @@
 -- A run is reserved for a write, and its job begins, or the run goes back.
-use Rattle.std.specs.Prelude.{◌≡◌, ◌⊎◌, ◌≤◌, ◌+◌, ◌-◌, ◌/◌, ◌==◌, ℕ, true, false, Contains, List, [], ◌∷◌, ◌++◌, length, max, Some, remove, slice_get, refl, Result, Ok}
+use Rattle.std.specs.Prelude.{◌≡◌, ◌⊎◌, ◌≤◌, ◌+◌, ◌-◌, ◌/◌, ◌==◌, ℕ, true, false, Contains, List, [], ◌∷◌, ◌++◌, length, max, IsSome, Option, Some, remove, slice_get, refl, Result, Ok}
 use Rattle.std.proofs.Common.{arith, ap, ◌∙◌, sym, subst, inl, inr, eq-eqb}
 use Rattle.std.proofs.lemmas.Bool.{cases_eq}
 use Rattle.std.proofs.lemmas.Bool.Decides.{nat_tests}
@@ -9,7 +9,6 @@ use Rattle.std.proofs.lemmas.Option.{get_or_from_slice_get, slice_get_within}
 use Rattle.std.proofs.Math.Seq.{get_or-append_seam}
 use Rattle.std.proofs.lemmas.List.Edits.{remove-append_right}
 use Rattle.std.proofs.lemmas.List.Folds.{list_any_at}
-use Rattle.posix_types.specs.declared.call.Mode.{Mode}
 use Rattle.block_counts.specs.Counts.{blocks_for}
 use Rattle.write_plan.specs.layout_model.declared.lines.Draft.{Draft}
 use Rattle.write_plan.specs.layout_model.declared.lines.Inode.{Inode}
@@ -23,7 +22,8 @@ use Rattle.write_plan.specs.image_model.Volume.{extents, inode, Volume}
 use Rattle.write_plan.specs.extent_model.Extents.{disk_at}
 use Rattle.posix_types.specs.declared.item.Item.{Item}
 use Rattle.live_step_laws.specs.world_image_laws.Back.{IsKeptBack}
-use Rattle.write_plan.specs.file_table.Files.{Files, spare_in}
+use Rattle.write_plan.specs.file_table.Files.{Files, runs_in, spare_in}
+use Rattle.write_plan.specs.file_overlay.Runs.{staged_at}
 use Rattle.live_step_laws.specs.ReservesLaws.{StandsReserved, StandsWithRun}
 use Rattle.live_step_laws.proofs.Restaged as restaging
 use Rattle.live_step_laws.proofs.Backs.{kept_over}
@@ -34,7 +34,6 @@ use Rattle.write_plan.specs.k_split_model.View.{View}
 use Rattle.write_plan.specs.list_laws.Members.{In, slice_get-push}
 use Rattle.posix_types.specs.declared.call.Who.{Who}
 use Rattle.write_plan.specs.posix_laws.Views.{need_of}
-use Rattle.write_plan.specs.posix_spec.Put.{Put}
 use Rattle.write_plan.specs.posix_spec.State.{room, State}
 use Rattle.live_step_laws.specs.staging_files.declared.runs.StageFault.{StageFault}
 use Rattle.live_step_laws.specs.staging_files.declared.runs.StageRun.{StageRun}
@@ -47,11 +46,12 @@ use Rattle.live_step_laws.specs.world_model.Jobs.{live_claims}
 use Rattle.live_step_laws.specs.world_model.Stands.{number}
 use Rattle.live_step_laws.specs.live_model.Standing.{Kept, reserved_run, StandsAt}
 use Rattle.write_plan.specs.declared.asks.asking.Target.{Target}
-use Rattle.write_plan.specs.Drafts.{staged_count}
+use Rattle.write_plan.specs.eof_laws.block_io.Overwrites.{blocks_reached}
 use Rattle.live_step_laws.specs.live_model.Jobs.{SpellCall}
 use Rattle.write_plan.specs.write_jobs.Jobs.{JobView}
-use Rattle.write_begin.specs.Stages.{IsStaged as IsJobStaged, Ready, with_parts}
-use Rattle.write_begin.specs.Goes.{BecomesJob, FitsTarget, Goes, GoesNoFurther, job_of, KeepsMaps, LosesTarget, RunGivenBack, StagedAsJob}
+use Rattle.write_begin.specs.Stages.{IsPresent, IsStaged as IsJobStaged, Ready, with_parts}
+use Rattle.write_begin.specs.Goes.{BecomesJob, FitsTarget, Goes, GoesNoFurther, job_of, KeepsMaps, LosesTarget, reached_run, RunGivenBack, StagedAsJob}
+use Rattle.write_begin.proofs.Steps.{puts_at}
 
 -- what the reserve answers with a run
 abbrev pub IsRun : ℕ → Staged → View → Staged → View → StageRun → Type 0
@@ -96,8 +96,11 @@ pub last_in : (xs : List StageRun) (x : StageRun) → Contains (xs ++ x ∷ []) 
 last_in xs x = (length xs, omega (arith, length-append xs (x ∷ [])), get_or-append_seam xs x [] x)
 
 -- the blocks of a write end with it
-ends_of : (start len size count : ℕ) → count ≡ staged_count Mode.Strict 0 start len → start / 4096 + count ≤ blocks_for (max size (start + len))
+ends_of : (start len size count : ℕ) → count ≡ blocks_reached start len → start / 4096 + count ≤ blocks_for (max size (start + len))
 ends_of start len size count is = omega (arith, is)
+
+pair_is : (a b c d : ℕ) → a ≡ c → b ≡ d → (let one : Option (ℕ × ℕ) = Some (a, b) in let other : Option (ℕ × ℕ) = Some (c, d) in one ≡ other)
+pair_is a b c d first second = λ i. (let both : ℕ × ℕ = (first i, second i) in Some both)
 
 -- a run has its first block
 has_first : (r : StageRun) → 1 ≤ r.count → has_block r.staging r.block r ≡ true
@@ -144,6 +147,24 @@ module _ (k l : View) (old new : Staged) (files : Files) (who : Who) (target : T
   pub run_out : Contains new.out taken
   run_out = subst (λ xs. Contains xs taken) (sym (run_is count old new k l taken answer).out_is) (last_in old.out taken)
 
+  -- no map of a file changes
+  pub keeps_maps : (goes : Goes k old files who target x) → KeepsMaps k.volume l.volume files files
+  keeps_maps goes = by answer where
+    by : IsRun count old k new l taken → KeepsMaps k.volume l.volume files files
+    by (inl was) = subst (λ (y : View). KeepsMaps k.volume y.volume files files) (sym was.same) (record { kinds = λ ino. refl; maps = λ ino file. refl; runs = λ ino. refl; sizes = refl; base = refl })
+    by (inr given) = record {
+      kinds = λ ino. elim (cases_eq ino taken.staging) [
+        | inl own ↦ ap (λ (m : ℕ). (inode l.volume m).kind) own ∙ (restages.kind ∙ (sym restages.staging ∙ ap (λ (m : ℕ). (inode k.volume m).kind) (sym own)))
+        | inr other ↦ ap (λ (y : Inode). y.kind) (restages.others ino other)
+      ];
+      maps = λ ino file. restages.maps ino (restaging.file_other goes.g k goes.t (kept_of goes) true goes.n goes.s goes.stands taken.staging (share old k count) l.volume given.given.0 given.way.place.staging given.way.place.empty given.given.1 given.given.2.order.whole ino file);
+      runs = λ ino. refl;
+      sizes = refl;
+      base = restaging.same_base goes.g k goes.t (kept_of goes) true goes.n goes.s goes.stands taken.staging (share old k count) l.volume given.given.0 given.way.place.staging given.way.place.empty given.given.1 given.given.2.order.whole;
+    } where
+      restages : Restages k.volume l.volume taken.staging
+      restages = restaging.restages goes.g k goes.t (kept_of goes) true goes.n goes.s goes.stands taken.staging (share old k count) l.volume given.given.0 given.way.place.staging given.way.place.empty given.given.1 given.given.2.order.whole
+
   -- ---- the bytes behind the end of the file are zeroed
 
   module _ (m : View) (clears : Clears target.ino files l m (block_start target.start)) where
@@ -175,6 +196,11 @@ module _ (k l : View) (old new : Staged) (files : Files) (who : Who) (target : T
     single goes b is disk i at word =
         clears.singles i ((with_run goes).single b is disk i (sym (ap (λ (v : Volume). disk_at (extents v taken.staging) b) volume_is) ∙ at) word)
 
+    pub present_then : (goes : Goes k old files who target x) (block : ℕ) → IsPresent k.volume files target.ino block → IsPresent m.volume files target.ino block
+    present_then goes block =
+        subst (λ es. IsSome (disk_at es block) ⊎ IsSome (staged_at (runs_in files target.ino) block))
+        (sym (ap (λ (v : Volume). extents v target.ino) volume_is ∙ (keeps_maps goes).maps target.ino (goes.stands.open_are_files target.ino goes.opened)))
+
     pub owed_then : (goes : Goes k old files who target x) → length (live_claims m.volume goes.kept.claims) + length (onward goes).now.jobs + 1 ≤ length new.out
     owed_then goes =
         let owed = (with_run goes).owed in
@@ -183,7 +209,7 @@ module _ (k l : View) (old new : Staged) (files : Files) (who : Who) (target : T
         omega (arith, owed, jobs, live)
 
     -- THE WRITE CAN BE STAGED
-    abbrev pub ready_of : FitsTarget files target (length x) → target.size ≤ LONGEST_FILE → count ≡ staged_count Mode.Strict target.size target.start (length x) → 3 ≤ spare_in files target.ino
+    abbrev pub ready_of : FitsTarget files target (length x) → target.size ≤ LONGEST_FILE → count ≡ blocks_reached target.start (length x) → 3 ≤ spare_in files target.ino
         → (goes : Goes k old files who target x) → Ready m files who target x taken
     ready_of fits small count_is spare goes = record {
       g = goes.g;
@@ -197,7 +223,8 @@ module _ (k l : View) (old new : Staged) (files : Files) (who : Who) (target : T
       stands = (onward goes).now;
       file = (onward goes).now.open_are_files target.ino goes.opened;
       size_is = fits.size;
-      puts = goes.puts ∙ ap (λ (numbers : List ℕ). (let put : Put = record { node = number numbers target.ino; place = target.start; bytes = x } in Some put)) (sym (numbers_are goes));
+      puts = puts_at goes.s who goes.call (number goes.stands.numbers target.ino) (number (onward goes).now.numbers target.ino) target x (ap (λ (numbers : List ℕ). number numbers target.ino) (sym (numbers_are goes))) goes.puts;
+      present = λ i high low. present_then goes (i / 4096) (goes.present i high low);
       fits = subst (λ js. needs goes.s js + need_of goes.s who goes.call ≤ room goes.s) (sym (jobs_are goes)) goes.fits;
       others = λ j is. goes.others j (subst (In j) (jobs_are goes) is);
       callers = goes.callers;
@@ -224,16 +251,18 @@ module _ (k l : View) (old new : Staged) (files : Files) (who : Who) (target : T
 
     -- ---- it is a job
 
-    pub becomes_job : (p : View) (last : Staged) (job : JobView) (blocks : List ℕ) → FitsTarget files target (length x) → target.size ≤ LONGEST_FILE → count ≡ staged_count Mode.Strict target.size target.start (length x)
+    pub becomes_job : (p : View) (last : Staged) (job : JobView) (blocks : List ℕ) → FitsTarget files target (length x) → target.size ≤ LONGEST_FILE → count ≡ blocks_reached target.start (length x)
         → 3 ≤ spare_in files target.ino → Goes k old files who target x → StagedAsJob m p new last files who target x taken job blocks
-        → BecomesJob k p old last files files who target x job blocks
+        → BecomesJob k p old last files files who target x (reached_run target (length x)) job blocks
     becomes_job p last job blocks fits small count_is spare goes_one staged = record {
-      run = λ need left lacks. lacks_none count old new k l taken goes_one.stands.staged answer need left (subst (λ n. IsLacking n old k need left) (sym count_is) lacks);
+      found = λ need left lacks.
+          lacks_none count old new k l taken goes_one.stands.staged answer need left (subst (λ n. IsLacking n old k need left) (ap (λ (d : Draft). d.count) staged.job_is.draft ∙ (run_is count old new k l taken answer).count_is) lacks);
       job_who = staged.job_is.who_is;
       blocks_are = staged.job_is.blocks_are;
       fresh = staged.job_is.fresh;
       ends = subst (λ (d : Draft). d.file_block + d.count ≤ blocks_for d.size) (sym staged.job_is.draft) (ends_of target.start (length x) target.size taken.count ((run_is count old new k l taken answer).count_is ∙ count_is));
-      plan = (ap (λ (d : Draft). d.file_block) staged.job_is.draft, ap (λ (d : Draft). d.count) staged.job_is.draft ∙ ((run_is count old new k l taken answer).count_is ∙ count_is));
+      plan = pair_is (target.start / 4096) (blocks_reached target.start (length x)) job.draft.file_block job.draft.count (sym (ap (λ (d : Draft). d.file_block) staged.job_is.draft))
+          (sym (ap (λ (d : Draft). d.count) staged.job_is.draft ∙ ((run_is count old new k l taken answer).count_is ∙ count_is)));
       out =
           ap (λ (s : Staged). s.out) staged.same
           ∙ ((run_is count old new k l taken answer).out_is ∙ ap (λ (d : Draft). old.out ++ reserved_run d ∷ []) (sym staged.job_is.draft));
@@ -315,24 +344,6 @@ module _ (k l : View) (old new : Staged) (files : Files) (who : Who) (target : T
                   let fewer = ap length out_is in
                   omega (arith, owed, more, fewer);
             }
-
-  -- no map of a file changes
-  pub keeps_maps : (goes : Goes k old files who target x) → KeepsMaps k.volume l.volume files files
-  keeps_maps goes = by answer where
-    by : IsRun count old k new l taken → KeepsMaps k.volume l.volume files files
-    by (inl was) = subst (λ (y : View). KeepsMaps k.volume y.volume files files) (sym was.same) (record { kinds = λ ino. refl; maps = λ ino file. refl; runs = λ ino. refl; sizes = refl; base = refl })
-    by (inr given) = record {
-      kinds = λ ino. elim (cases_eq ino taken.staging) [
-        | inl own ↦ ap (λ (m : ℕ). (inode l.volume m).kind) own ∙ (restages.kind ∙ (sym restages.staging ∙ ap (λ (m : ℕ). (inode k.volume m).kind) (sym own)))
-        | inr other ↦ ap (λ (y : Inode). y.kind) (restages.others ino other)
-      ];
-      maps = λ ino file. restages.maps ino (restaging.file_other goes.g k goes.t (kept_of goes) true goes.n goes.s goes.stands taken.staging (share old k count) l.volume given.given.0 given.way.place.staging given.way.place.empty given.given.1 given.given.2.order.whole ino file);
-      runs = λ ino. refl;
-      sizes = refl;
-      base = restaging.same_base goes.g k goes.t (kept_of goes) true goes.n goes.s goes.stands taken.staging (share old k count) l.volume given.given.0 given.way.place.staging given.way.place.empty given.given.1 given.given.2.order.whole;
-    } where
-      restages : Restages k.volume l.volume taken.staging
-      restages = restaging.restages goes.g k goes.t (kept_of goes) true goes.n goes.s goes.stands taken.staging (share old k count) l.volume given.given.0 given.way.place.staging given.way.place.empty given.given.1 given.given.2.order.whole
 
   -- ---- the power goes while they are zeroed
 

@@ -1,10 +1,12 @@
 -- Memory for the run of a write.
-use Rattle.std.specs.Prelude.{◌≡◌, ◌≢◌, ◌≤◌, ◌<◌, ◌+◌, ℕ, List, [], ◌∷◌, length, slice_index, refl}
+use Rattle.std.specs.Prelude.{◌≡◌, ◌≢◌, ◌≤◌, ◌<◌, ◌+◌, ◌⊎◌, ℕ, List, [], ◌∷◌, length, slice_index, IsSome, refl}
 use Rattle.std.proofs.Common.{arith, ap, ◌∙◌, sym, subst, inl, inr}
 use Rattle.block_counts.specs.Counts.{blocks_for}
 use Rattle.write_plan.specs.layout_model.declared.lines.Draft.{Draft}
 use Rattle.write_plan.specs.layout_model.Places.{data_blocks}
-use Rattle.write_plan.specs.image_model.Volume.{Volume}
+use Rattle.write_plan.specs.image_model.Volume.{extents, Volume}
+use Rattle.write_plan.specs.extent_model.Extents.{disk_at}
+use Rattle.write_plan.specs.file_overlay.Runs.{staged_at}
 use Rattle.write_plan.specs.file_table.Files.{Files, runs_in, size_in, spare_in}
 use Rattle.live_step_laws.specs.live_model.Flying.{IsFlying}
 use Rattle.live_step_laws.specs.world_model.HeldLaws.{AreSizes}
@@ -98,17 +100,18 @@ module _ (k : View) (staging : Staged) (files then : Files) (who : Who) (target 
     };
     jobs_are = refl;
     numbers_are = refl;
+    present = λ block. subst (λ rs. IsSome (disk_at (extents k.volume target.ino) block) ⊎ IsSome (staged_at rs block)) (sym (spares.runs target.ino));
   }
 
 -- it leaves the room that there is
-pub room_spared : (v : Volume) (files then : Files) (target : Target) (len : ℕ) → SparesOthers target.ino files then → HasRoom v files target len → HasRoom v then target len
-room_spared v files then target len spares has = record {
+pub room_spared : (mode : Mode) (v : Volume) (files then : Files) (target : Target) (len : ℕ) → SparesOthers target.ino files then → HasRoom mode v files target len → HasRoom mode v then target len
+room_spared mode v files then target len spares has = record {
   ends = record {
     maps = λ ino block file past. has.ends.maps ino block file (subst (λ (sizes : List ℕ). blocks_for (slice_index sizes ino) ≤ block) spares.sizes past);
     runs = λ ino run is.
         subst (λ (sizes : List ℕ). run.file_block + run.count ≤ blocks_for (slice_index sizes ino)) (sym spares.sizes) (has.ends.runs ino run (subst (In run) (spares.runs ino) is));
   };
   room =
-      subst (λ n. write_need Mode.Strict target.size target.start (target.start + len) ≤ n) (ap (λ (sizes : List ℕ). room_in (data_blocks v.geometry) (record files { sizes = sizes })) (sym spares.sizes))
+      subst (λ n. write_need mode target.size target.start (target.start + len) ≤ n) (ap (λ (sizes : List ℕ). room_in (data_blocks v.geometry) (record files { sizes = sizes })) (sym spares.sizes))
       has.room;
 }

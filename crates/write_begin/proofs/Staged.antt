@@ -1,18 +1,19 @@
 -- The job stands, and the World stands together with it.
-use Rattle.std.specs.Prelude.{◌≡◌, ◌≢◌, ◌⊎◌, ◌≤◌, ◌<◌, ◌+◌, ◌-◌, ◌*◌, ◌/◌, ℕ, true, false, Contains, List, [], ◌∷◌, ◌++◌, length, map, max, Option, Some, None, IsSome, slice_index, refl}
+use Rattle.std.specs.Prelude.{◌≡◌, ◌≢◌, ◌⊎◌, ◌≤◌, ◌<◌, ◌+◌, ◌-◌, ◌*◌, ◌/◌, ℕ, true, false, Contains, List, [], ◌∷◌, ◌++◌, drop, length, map, max, Option, Some, None, IsSome, slice_index, refl}
 use Rattle.std.proofs.Common.{arith, ap, ◌∙◌, sym, subst, inl, inr}
 use Rattle.std.proofs.Math.ListN.{get_or-map}
 use Rattle.std.proofs.lemmas.Bool.{cases_lt}
 use Rattle.std.proofs.lemmas.Bool.Decides.{nat_tests}
-use Rattle.std.proofs.lemmas.List.{get_or_past, length-map}
+use Rattle.std.proofs.lemmas.List.{get_or_past, length-drop, length-map}
 use Rattle.std.proofs.lemmas.Option.{same_Some}
+use Rattle.posix_types.specs.declared.call.Call.{Call}
 use Rattle.posix_types.specs.declared.call.Mode.{Mode}
 use Rattle.write_jobs.specs.pm_model.declared.Cell.{Cell}
 use Rattle.write_jobs.specs.pm_model.ImageLaws.{IsImage-words_of}
 use Rattle.write_jobs.specs.pm_model.Images.{IsImage, words_of}
 use Rattle.write_jobs.specs.pm_model.Parts.{Part}
 use Rattle.write_jobs.specs.pm_model.Words.{Words}
-use Rattle.write_plan.specs.crash_spec.RelationLaws.{IsPartOf-whole}
+use Rattle.write_plan.specs.crash_spec.Sync.{IsPartOf}
 use Rattle.write_jobs.specs.layout_model.Journal.{journaled}
 use Rattle.write_jobs.specs.layout_model.declared.lines.Draft.{Draft}
 use Rattle.write_jobs.specs.layout_model.Entries.{is_draft}
@@ -35,23 +36,27 @@ use Rattle.posix_tables.specs.Bytes.{overwritten}
 use Rattle.posix_tables.specs.Nodes.{bytes_of, node_at}
 use Rattle.posix_laws.specs.FitsLaws.{length-overwritten}
 use Rattle.posix_laws.specs.Puts.{PutsWhole}
-use Rattle.posix_laws.specs.posix_spec.Put.{Put}
+use Rattle.posix_laws.specs.RowLaws.{put_at-Some}
+use Rattle.posix_laws.specs.posix_spec.FileRows.{write_start}
+use Rattle.posix_laws.specs.posix_spec.Put.{Put, put_by}
 use Rattle.posix_laws.specs.posix_spec.State.{State}
 use Rattle.live_step_laws.specs.staging_files.declared.runs.StageRun.{StageRun}
-use Rattle.write_jobs.specs.world_model.Jobs.{AreApartJobs, Job, JobsStand, JobStands, live_claims, staged_block, Valid}
+use Rattle.write_jobs.specs.world_model.Jobs.{AreApartJobs, front_from, IsInFront, Job, JobsStand, JobStands, live_claims, put_bytes_of, staged_block, Valid}
 use Rattle.write_jobs.specs.world_model.Stands.{FileStands, is_used, number, Stands}
 use Rattle.live_step_laws.specs.live_model.Standing.{AreJobsOf, HasItsBlocks, Kept, JobOut, reserved_run, StandsAt}
 use Rattle.live_step_laws.specs.live_model.Jobs.{SpellCall}
 use Rattle.write_jobs.specs.Loans.{AreLentBy, AreLoansOf}
 use Rattle.write_plan.specs.declared.asks.asking.Target.{Target}
-use Rattle.write_plan.specs.Drafts.{DraftsAreNext, IsNextEntry, staged_count}
+use Rattle.write_plan.specs.Drafts.{DraftsAreNext, IsNextEntry}
+use Rattle.write_plan.specs.eof_laws.block_io.Overwrites.{blocks_reached}
 use Rattle.write_plan.proofs.Numbers.{file_node}
 use Rattle.write_jobs.specs.Contents.{SpellBytes}
 use Rattle.write_jobs.specs.Jobs.{blocks_of, loan_at}
 use Rattle.write_plan.specs.Words.{staged_in, StagesTheFile}
 use Rattle.write_begin.specs.Stages.{IsStaged, pending_of, Ready}
 use Rattle.write_begin.proofs.Making.{count_is, draft, few, kept_is, live, next, placed, staging_file}
-use Rattle.write_begin.proofs.Numbers.{apart_runs, before_write, beside_write, same_beside}
+use Rattle.write_begin.proofs.Numbers.{apart_runs, before_write, beside_write, part_beside, part_length, same_beside, written_there}
+use Rattle.write_begin.proofs.Present.{present_found}
 
 some_blocks : (d : Draft) → is_draft d ≡ true → 1 ≤ d.count
 some_blocks d is = grind (arith, nat_tests)
@@ -75,6 +80,13 @@ job_stands v es f numbers s [] j out is = absurd is
 job_stands v es f numbers s (i ∷ jobs) j out (inl same) = subst (JobStands v es f numbers s) same out.0
 job_stands v es f numbers s (i ∷ jobs) j out (inr behind) = job_stands v es f numbers s jobs j out.2 behind
 
+-- the bytes of a call are those that it puts
+put_bytes : (s : State) (who : Who) (call : Call) (put : Put) → put_by s who call ≡ Some put → put_bytes_of call ≡ put.bytes
+unfolding put_by
+put_bytes s who (Call.Write h x) put is = ap (λ (q : Put). q.bytes) (put_at-Some s who h (write_start s who h) x put is).1
+put_bytes s who (Call.Pwrite h start x) put is = ap (λ (q : Put). q.bytes) (put_at-Some s who h start x put is).1
+put_bytes s who call put is = let never = is in cc
+
 module _ (k : View) (files : Files) (who : Who) (target : Target) (x : List ℕ) (run : StageRun) (ready : Ready k files who target x run) where
   abbrev d : Draft
   d = draft k files who target x run ready
@@ -88,11 +100,22 @@ module _ (k : View) (files : Files) (who : Who) (target : Target) (x : List ℕ)
   abbrev old : List ℕ
   old = bytes_of (node_at ready.s.nodes node)
 
+  -- where the write begins of which it is a part, and its bytes
+  abbrev place : ℕ
+  place = ready.puts.put.place
+
+  abbrev bytes : List ℕ
+  bytes = ready.puts.put.bytes
+
+  -- the whole bytes, and what is found of them: those of the part
   abbrev whole : List ℕ
-  whole = overwritten old target.start x
+  whole = overwritten old place bytes
+
+  abbrev found : List ℕ
+  found = overwritten old target.start x
 
   abbrev job : Job
-  job = record { who = who; call = ready.call; draft = d; whole = whole; found = whole }
+  job = record { who = who; call = ready.call; draft = d; whole = whole; found = found }
 
   valid_at : (image : Words) → IsImage k.cells image → Valid k.volume ready.kept.claims ready.stands.jobs (journaled image) ready.stands.numbers ready.s
   valid_at image is = (ready.stands.flying.device.world image is).valid
@@ -108,15 +131,93 @@ module _ (k : View) (files : Files) (who : Who) (target : Target) (x : List ℕ)
       let same = ready.size_is in
       omega (arith, of_file, of_table, same)
 
-  size_whole : d.size ≡ length whole
-  size_whole = ap (λ n. max n (target.start + length x)) (sym size_old) ∙ sym (length-overwritten old target.start x)
+  size_found : d.size ≡ length found
+  size_found = ap (λ n. max n (target.start + length x)) (sym size_old) ∙ sym (length-overwritten old target.start x)
+
+  -- the part begins within the write,
+  begins_within : target.start ≤ place + length bytes
+  begins_within =
+      let some = ready.has_run.some in
+      let long = ap length ready.puts.bytes in
+      let after = ready.puts.place in
+      omega (arith, some, long, after, length-drop (target.start - place) bytes)
+
+  same_bytes : found ≡ overwritten old target.start (drop (target.start - place) bytes)
+  same_bytes = ap (overwritten old target.start) ready.puts.bytes
+
+  -- what is found has the length of the whole, and is as the whole but in front of the part
+  same_length : length found ≡ length whole
+  same_length = ap length same_bytes ∙ part_length old bytes place target.start ready.puts.place begins_within
+
+  beside_front : (i : ℕ) → (i < place) ⊎ (target.start ≤ i) → slice_index found i ≡ slice_index whole i
+  beside_front i is = ap (λ (xs : List ℕ). slice_index xs i) same_bytes ∙ part_beside old bytes place target.start ready.puts.place begins_within i is
+
+  -- ---- in front of the part
+
+  bytes_are : put_bytes_of ready.call ≡ bytes
+  bytes_are = put_bytes ready.s who ready.call ready.puts.put ready.puts.is
+
+  long_whole : length whole ≡ max (length old) (place + length bytes)
+  long_whole = length-overwritten old place bytes
+
+  front_is : (i : ℕ) → IsInFront job i → (place ≤ i) × (i < target.start)
+  front_is i front =
+      let long = long_whole in
+      let many = ap length bytes_are in
+      let low = front.0 in
+      let high = front.1 in
+      (omega (arith, long, many, low), omega (arith, high))
+
+  -- some bytes are, so the file ends within the write
+  front_begins : place < target.start → front_from job ≡ place
+  front_begins some =
+      let long = long_whole in
+      let many = ap length bytes_are in
+      let ends = (ready.puts.front some).2 in
+      omega (arith, long, many, size_old, ends)
+
+  in_front : (i : ℕ) → place ≤ i → i < target.start → IsInFront job i
+  in_front i high low =
+      let some : place < target.start = omega (arith, high, low) in
+      let begins = front_begins some in
+      let whole_blocks = (ready.puts.front some).1 in
+      (omega (arith, begins, high), omega (arith, low, whole_blocks))
+
+  front_below : (i : ℕ) → place ≤ i → i < target.start → i < length old
+  front_below i high low =
+      let below = (ready.puts.front (omega (arith, high, low))).0 in
+      omega (arith, below, low, size_old)
+
+  -- a byte that is not in front lies before the write, or from the part on
+  not_in_front : (i : ℕ) → ¬ IsInFront job i → (i < place) ⊎ (target.start ≤ i)
+  not_in_front i out = elim (cases_lt i place) [
+    | inl before ↦ inl before
+    | inr high ↦ elim (cases_lt i target.start) [ inl low ↦ absurd (out (in_front i high low)) | inr past ↦ inr past ]
+  ]
+
+  -- and so does each byte of its blocks
+  from_block : (i : ℕ) → target.start / 4096 ≤ i / 4096 → (i < place) ⊎ (target.start ≤ i)
+  from_block i from = elim (cases_lt i place) [
+    | inl before ↦ inl before
+    | inr high ↦ elim (cases_lt i target.start) [
+      | inl low ↦ (let whole_blocks = (ready.puts.front (omega (arith, high, low))).1 in absurd (omega (arith, low, from, whole_blocks)))
+      | inr past ↦ inr past
+    ]
+  ]
+
+  front_bytes : (i : ℕ) → IsInFront job i → slice_index whole i ≡ slice_index (put_bytes_of ready.call) (i - front_from job)
+  front_bytes i front =
+      let side = front_is i front in
+      let begins = front_begins (omega (arith, side.0, side.1)) in
+      written_there old bytes place i side.0 (omega (arith, side.1, begins_within))
+      ∙ (ap (λ n. slice_index bytes (i - n)) (sym begins) ∙ ap (λ (xs : List ℕ). slice_index xs (i - front_from job)) (sym bytes_are))
 
   block_by_log : (image : Words) → IsImage k.cells image → (block : ℕ) → block_in k.volume (runs_in files target.ino) target.ino block ≡ disk_of k.volume alive target.ino block
   block_by_log image is block =
       overlay_is_log k.volume alive target.ino (size_in files target.ino) (runs_in files target.ino) block (valid_at image is).stands.log (ready.stands.flying.overlays target.ino ready.file)
 
   -- Outside its blocks the file has already what it has afterwards.
-  rest : (image : Words) → IsImage k.cells image → (i : ℕ) → i < length whole → is_within d.file_block d.count (i / 4096) ≡ false → byte_in (journaled image) (disk_of k.volume alive target.ino (i / 4096)) i ≡ slice_index whole i
+  rest : (image : Words) → IsImage k.cells image → (i : ℕ) → i < length found → is_within d.file_block d.count (i / 4096) ≡ false → byte_in (journaled image) (disk_of k.volume alive target.ino (i / 4096)) i ≡ slice_index found i
   rest image is i low outside = elim (cases_lt i (length old)) [
     | inl there ↦ (file_at image is).each i there ∙ sym (same_beside old x target.start i beside)
     | inr past ↦ (
@@ -124,7 +225,7 @@ module _ (k : View) (files : Files) (who : Who) (target : Target) (x : List ℕ)
         sym (ap (λ o. byte_in (journaled image) o i) (block_by_log image is (i / 4096)))
         ∙ (ready.zero image is i (omega (arith, past, size_old)) early ∙ sym (same_beside old x target.start i beside ∙ get_or_past old i 0 past)))
   ] where
-    out : is_within (target.start / 4096) (staged_count Mode.Strict target.size target.start (length x)) (i / 4096) ≡ false
+    out : is_within (target.start / 4096) (blocks_reached target.start (length x)) (i / 4096) ≡ false
     out = subst (λ n. is_within (target.start / 4096) n (i / 4096) ≡ false) (count_is k files who target x run ready) outside
 
     beside : (i < target.start) ⊎ (target.start + length x ≤ i)
@@ -136,8 +237,37 @@ module _ (k : View) (files : Files) (who : Who) (target : Target) (x : List ℕ)
       | inr late ↦ absurd (let size = length-overwritten old target.start x in omega (arith, size, low, past, late))
     ]
 
+  -- each byte in front has a block
+  front_placed : (i : ℕ) → IsInFront job i → IsSome (disk_of k.volume alive target.ino (i / 4096))
+  front_placed i front =
+      let side = front_is i front in
+      present_found k.volume alive target.ino (i / 4096) (valid_at (words_of k.cells) (IsImage-words_of k.cells)).stands.log files (ready.stands.flying.overlays target.ino ready.file) (ready.present i side.0 side.1)
+
+  -- what is found is a part of the whole,
+  is_part : IsPartOf old whole found
+  is_part = record { size = same_length; each = each } where
+    each : (i : ℕ) → i < length found → (slice_index found i ≡ slice_index whole i) ⊎ ((i < length old) × (slice_index found i ≡ slice_index old i))
+    each i below = elim (cases_lt i target.start) [
+      | inr past ↦ inl (beside_front i (inr past))
+      | inl low ↦ elim (cases_lt i place) [
+        | inl before ↦ inl (beside_front i (inl before))
+        | inr high ↦ inr (front_below i high low, same_beside old x target.start i (inl low))
+      ]
+    ]
+
+  -- and in strict mode the whole
+  strict_whole : ready.s.mode ≡ Mode.Strict → found ≡ whole
+  strict_whole strict =
+      let same = ready.puts.strict strict in
+      (λ i. overwritten old (sym same i) ((ready.puts.bytes ∙ ap (λ n. drop n bytes) {x = target.start - place} {y = 0} (omega (arith, same))) i))
+
   puts : PutsWhole ready.s who ready.call node whole
-  puts = record { put = record { node = node; place = target.start; bytes = x }; is = ready.puts; node_is = refl; whole_is = refl }
+  puts = record {
+    put = ready.puts.put;
+    is = ready.puts.is;
+    node_is = ready.puts.node_is;
+    whole_is = ap (λ n. overwritten (bytes_of (node_at ready.s.nodes n)) place bytes) ready.puts.node_is;
+  }
 
   apart_of : (e : Draft) → 1 ≤ e.count → Contains ready.old (reserved_run e) → AreApart e d
   apart_of e some out same = apart_runs (reserved_run e) run (ready.apart (reserved_run e) out) some (few k files who target x run ready).0 same
@@ -157,14 +287,20 @@ module _ (k : View) (files : Files) (who : Who) (target : Target) (x : List ℕ)
       fields = fields;
       alive = next_is.alive;
       order = next_is.order;
-      size = size_whole;
+      size = size_found;
       rest = rest image is;
-      within = λ i inside. refl;
+      within = λ i inside. beside_front i (from_block i (below_from d.file_block d.count (i / 4096) inside).0);
+      parts = record {
+        front = front_bytes;
+        within_file = λ i front. (let side = front_is i front in let long = length-overwritten old target.start x in omega (arith, side.1, long));
+        rest = λ i out. beside_front i (not_in_front i out);
+      };
+      placed = front_placed;
       staging = (staging_file k files who target x run ready).kind;
       staged = staged;
       apart = λ e there. apart_of e (some_blocks e (ready.stands.drafts e there).fields) (ready.claims_out e there);
       puts = puts;
-      part = IsPartOf-whole old whole;
+      part = is_part;
     }
 
     apart_jobs : (i : Job) → In i ready.stands.jobs → AreApartJobs i job
@@ -197,7 +333,7 @@ module _ (k : View) (files : Files) (who : Who) (target : Target) (x : List ℕ)
         draft_is = refl;
         stands = stands_at;
         apart = apart_jobs;
-        whole = λ strict. refl;
+        whole = strict_whole;
         fits = ready.fits;
         caller = ready.callers;
         blocks = has_blocks;
@@ -207,12 +343,16 @@ module _ (k : View) (files : Files) (who : Who) (target : Target) (x : List ℕ)
         spare = ready.spare;
       }
 
+  -- words that spell what is found in the blocks spell the whole there
+  spell_whole : (words : List ℕ) → SpellWhole d words found → SpellWhole d words whole
+  spell_whole words spell n i few within = spell n i few within ∙ beside_front (4096 * (d.file_block + n) + i) (from_block (4096 * (d.file_block + n) + i) (omega (arith, within)))
+
   -- its words are those of the call
   pub spells : StagesTheFile → (words blocks : List ℕ) → SpellBytes words (staged_in k files target.ino target.start run.count x) → SpellCall ready.s (pending_of k files who ready.call target (length x) run blocks) words
-  spells law words blocks spell other bytes puts_it =
-      let same : puts_it.put ≡ record { node = node; place = target.start; bytes = x } = same_Some puts_it.put (record { node = node; place = target.start; bytes = x }) (sym puts_it.is ∙ ready.puts) in
-      subst (SpellWhole d words) (sym (ap (λ (q : Put). overwritten (bytes_of (node_at ready.s.nodes q.node)) q.place q.bytes) same) ∙ puts_it.whole_is)
-      (law ready.g k ready.t (kept_is k files who target x run ready) true ready.n ready.s target.ino target.start x words d ready.stands ready.file refl (few k files who target x run ready).2 spell)
+  spells law words blocks spell other other_whole puts_it =
+      let same : puts_it.put ≡ ready.puts.put = same_Some puts_it.put ready.puts.put (sym puts_it.is ∙ ready.puts.is) in
+      subst (SpellWhole d words) (sym (ap (λ n. overwritten (bytes_of (node_at ready.s.nodes n)) place bytes) ready.puts.node_is) ∙ (sym (ap (λ (q : Put). overwritten (bytes_of (node_at ready.s.nodes q.node)) q.place q.bytes) same) ∙ puts_it.whole_is))
+      (spell_whole words (law ready.g k ready.t (kept_is k files who target x run ready) true ready.n ready.s target.ino target.start x words d ready.stands ready.file refl (few k files who target x run ready).2 spell))
 
 -- THE JOB IS OUT
 pub is_staged : DraftsAreNext → StagesTheFile → StandsBegun → (k l : View) (files : Files) (who : Who) (target : Target) (x : List ℕ) (run : StageRun) (words blocks : List ℕ) (loans : List Part)

@@ -1,12 +1,13 @@
 -- A write that no row refuses, and that finds room beside the jobs that are out, on its way.
 use Rattle.block_counts.specs.declared.TheConstants.{LONGEST_FILE, LONGEST_WRITE}
-use Rattle.std.specs.Prelude.{◌≡◌, ◌≢◌, ◌≤◌, ◌<◌, ◌+◌, ◌/◌, ◌^◌, ℕ, true, false, List, [], ◌∷◌, ◌++◌, length, Some, Result, Ok, Err}
+use Rattle.std.specs.Prelude.{◌≡◌, ◌≢◌, ◌≤◌, ◌<◌, ◌+◌, ◌/◌, ◌^◌, ℕ, true, false, List, [], ◌∷◌, ◌++◌, length, Option, Some, Result, Ok, Err}
 use Rattle.std.specs.declared.alloc.AllocError.{AllocError}
 use Rattle.block_counts.specs.Counts.{blocks_for}
 use Rattle.write_plan.specs.layout_model.declared.lines.Kind.TheVariants.{File}
 use Rattle.write_plan.specs.layout_model.Places.{data_blocks, Geometry}
 use Rattle.write_plan.specs.image_model.Volume.{extents, inode, Volume}
 use Rattle.write_plan.specs.eof_laws.Ends.{FilesEnd}
+use Rattle.write_plan.specs.eof_laws.block_io.Overwrites.{blocks_reached}
 use Rattle.write_plan.specs.file_table.Files.{Files, runs_in, size_in}
 use Rattle.write_plan.specs.k_split_model.View.{View}
 use Rattle.write_plan.specs.list_laws.Members.{In}
@@ -19,7 +20,6 @@ use Rattle.posix_tables.specs.Open.{is_open, Tables}
 use Rattle.posix_tables.specs.Room.{write_need}
 use Rattle.live_step_laws.specs.commute_laws.Frames.{AreThreads}
 use Rattle.write_plan.specs.posix_laws.Views.{need_of}
-use Rattle.write_plan.specs.posix_spec.Put.{put_by}
 use Rattle.write_plan.specs.posix_spec.Run.{run}
 use Rattle.write_plan.specs.posix_spec.State.{room, State}
 use Rattle.live_step_laws.specs.staging_files.declared.runs.StageRun.{StageRun}
@@ -35,9 +35,8 @@ use Rattle.live_step_laws.specs.live_model.Standing.{Kept, JobOut, reserved_run,
 use Rattle.live_step_laws.specs.live_model.Jobs.{SpellCall}
 use Rattle.write_plan.specs.declared.asks.asking.Target.{Target}
 use Rattle.write_plan.specs.Asks.{room_in}
-use Rattle.write_plan.specs.Drafts.{staged_count}
 use Rattle.write_plan.specs.write_jobs.Jobs.{blocks_of, JobView}
-use Rattle.write_begin.specs.Stages.{IsJobOf, IsStaged, Ready, with_parts}
+use Rattle.write_begin.specs.Stages.{IsJobOf, IsPresent, IsStaged, PutsFrom, Ready, with_parts}
 use Rattle.write_begin.specs.declared.begins.beginning.WriteBegun.{WriteBegun}
 
 -- the bytes are those of a write that fits the longest file
@@ -48,16 +47,16 @@ pub record FitsTarget (files : Files) (target : Target) (len : ℕ) : Type 0 whe
   pub size : target.size ≡ size_in files target.ino
 
 -- Nothing of a file lies past its end, and all files leave the room that the write needs: so as the first of a lap it has its blocks.
-pub record HasRoom (v : Volume) (files : Files) (target : Target) (len : ℕ) : Type 0 where
+pub record HasRoom (mode : Mode) (v : Volume) (files : Files) (target : Target) (len : ℕ) : Type 0 where
   pub ends : FilesEnd v files
-  pub room : write_need Mode.Strict target.size target.start (target.start + len) ≤ room_in (data_blocks v.geometry) files
+  pub room : write_need mode target.size target.start (target.start + len) ≤ room_in (data_blocks v.geometry) files
 
 -- Where no run is out nothing is staged at all: so the first write of a lap has its run.
 abbrev pub IsBareAtRest : Staged → Type 0
 IsBareAtRest s = s.out ≡ [] → s ≡ nothing_staged
 
--- A World in which a call puts these bytes into the file of the target, at its place, and finds room beside the jobs that are out,
--- which are of other callers and other files.
+-- A World in which a call puts a write of which these bytes are the part from the target's place on, of what lies before its file has the
+-- blocks, and finds room beside the jobs that are out, which are of other callers and other files.
 pub record Goes (k : View) (staging : Staged) (files : Files) (who : Who) (target : Target) (x : List ℕ) : Type 0 where
   pub g : Geometry
   pub t : Tables
@@ -68,10 +67,15 @@ pub record Goes (k : View) (staging : Staged) (files : Files) (who : Who) (targe
   pub call : Call
   pub stands : StandsAt g k t (with_parts kept staging files) true n s
   pub opened : is_open t target.ino ≡ true
-  pub puts : put_by s who call ≡ Some (record { node = number stands.numbers target.ino; place = target.start; bytes = x })
+  pub puts : PutsFrom s who call (number stands.numbers target.ino) target x
+  pub present : (i : ℕ) → puts.put.place ≤ i → i < target.start → IsPresent k.volume files target.ino (i / 4096)
   pub fits : needs s stands.jobs + need_of s who call ≤ room s
   pub others : (j : Job) → In j stands.jobs → j.draft.ino ≢ target.ino
   pub callers : (p : JobOut) → In p kept.pending → AreThreads who p.who
+
+-- and the bytes are all of the write
+abbrev pub GoesWhole : View → Staged → Files → Who → Target → List ℕ → Type 0
+GoesWhole k staging files who target x = (goes : Goes k staging files who target x) × (goes.puts.put.place ≡ target.start)
 
 -- the job as the World keeps it
 abbrev pub job_of : Who → Call → JobView → List ℕ → JobOut
@@ -87,14 +91,18 @@ pub record KeepsMaps (v w : Volume) (files then : Files) : Type 0 where
 
 -- ---- how it went on
 
--- IT IS A JOB, with the blocks of its plan; and just its run went out.
-pub record BecomesJob (k l : View) (old new : Staged) (files then : Files) (who : Who) (target : Target) (x : List ℕ) (job : JobView) (blocks : List ℕ) : Type 0 where
-  pub run : (need left : ℕ) → ¬ IsLacking (staged_count Mode.Strict target.size target.start (length x)) old k need left
+-- the blocks that a part reaches, from that of its first byte on
+abbrev pub reached_run : Target → ℕ → Option (ℕ × ℕ)
+reached_run target len = Some (target.start / 4096, blocks_reached target.start len)
+
+-- IT IS A JOB, with the blocks of its run; and just these went out.
+pub record BecomesJob (k l : View) (old new : Staged) (files then : Files) (who : Who) (target : Target) (x : List ℕ) (run : Option (ℕ × ℕ)) (job : JobView) (blocks : List ℕ) : Type 0 where
+  pub found : (need left : ℕ) → ¬ IsLacking job.draft.count old k need left
   pub job_who : job.who ≡ who
   pub blocks_are : blocks_of job.loans ≡ blocks
   pub fresh : job.lost ≡ false
   pub ends : job.draft.file_block + job.draft.count ≤ blocks_for job.draft.size
-  pub plan : (job.draft.file_block ≡ target.start / 4096) × (job.draft.count ≡ staged_count Mode.Strict target.size target.start (length x))
+  pub plan : run ≡ Some (job.draft.file_block, job.draft.count)
   pub out : new.out ≡ old.out ++ reserved_run job.draft ∷ []
   pub words : (goes : Goes k old files who target x) → SpellCall goes.s (job_of who goes.call job blocks) job.words
   pub stands : (goes : Goes k old files who target x)
@@ -106,8 +114,10 @@ pub record GoesNoFurther (k l : View) (old new : Staged) (files then : Files) (w
   pub stands : (goes : Goes k old files who target x) → StandsAt goes.g l goes.t (with_parts goes.kept new then) true goes.n goes.s
 
 -- the staging has no run for it, and one at least is out; K-Split and the staging are as they were
-pub record LacksRun (k l : View) (old new : Staged) (files then : Files) (who : Who) (target : Target) (x : List ℕ) (need left : ℕ) : Type 0 where
-  pub lacks : IsLacking (staged_count Mode.Strict target.size target.start (length x)) old k need left
+pub record LacksRun (k l : View) (old new : Staged) (files then : Files) (who : Who) (target : Target) (x : List ℕ) (run : Option (ℕ × ℕ)) (need left : ℕ) : Type 0 where
+  pub needed : ℕ × ℕ
+  pub run_is : run ≡ Some needed
+  pub lacks : IsLacking needed.1 old k need left
   pub late : old.out ≢ []
   pub same : new ≡ old
   pub nothing : l ≡ k
@@ -119,12 +129,13 @@ pub record LosesTarget (k l : View) (old : Staged) (files : Files) (who : Who) (
   pub kept : (goes : Goes k old files who target x) (start : State) (history : List Item) → goes.s ≡ run start history
       → KeepsWhenLost k.volume l.cells goes.kept goes.stands.jobs start history ((who, goes.call) ∷ [])
 
-abbrev pub IsGone : View → View → Staged → Staged → Files → Files → Who → Target → List ℕ → Result WriteBegun AllocError → Type 0
-IsGone k l old new files then who target x (Ok (WriteBegun.Answered outcome)) = ⊥
-IsGone k l old new files then who target x (Ok (WriteBegun.Job job blocks)) = BecomesJob k l old new files then who target x job blocks.items
-IsGone k l old new files then who target x (Ok (WriteBegun.RoundOver need left)) = LacksRun k l old new files then who target x need left
-IsGone k l old new files then who target x (Ok WriteBegun.PowerLost) = LosesTarget k l old files who target x
-IsGone k l old new files then who target x (Err e) = GoesNoFurther k l old new files then who target x
+-- all of it, for a write that stages this run
+abbrev pub IsGone : View → View → Staged → Staged → Files → Files → Who → Target → List ℕ → Option (ℕ × ℕ) → Result WriteBegun AllocError → Type 0
+IsGone k l old new files then who target x run (Ok (WriteBegun.Answered outcome)) = ⊥
+IsGone k l old new files then who target x run (Ok (WriteBegun.Job job blocks)) = BecomesJob k l old new files then who target x run job blocks.items
+IsGone k l old new files then who target x run (Ok (WriteBegun.RoundOver need left)) = LacksRun k l old new files then who target x run need left
+IsGone k l old new files then who target x run (Ok WriteBegun.PowerLost) = LosesTarget k l old files who target x
+IsGone k l old new files then who target x run (Err e) = GoesNoFurther k l old new files then who target x
 
 -- ---- with its run
 

@@ -1,20 +1,23 @@
 -- A logged write that has its run of staging blocks becomes a job.
-use Rattle.std.specs.Prelude.{◌≡◌, ◌≢◌, ◌≤◌, ◌<◌, ◌+◌, ◌*◌, ◌/◌, ◌^◌, ℕ, true, false, Contains, List, [], ◌∷◌, ◌++◌, length, Some}
+use Rattle.std.specs.Prelude.{◌≡◌, ◌≢◌, ◌⊎◌, ◌≤◌, ◌<◌, ◌+◌, ◌-◌, ◌*◌, ◌/◌, ◌%◌, ◌^◌, ℕ, true, false, Contains, List, [], ◌∷◌, ◌++◌, length, drop, IsSome, Some}
 use Rattle.write_jobs.specs.layout_model.declared.lines.Draft.{Draft}
 use Rattle.write_jobs.specs.layout_model.declared.lines.Kind.TheVariants.{File}
 use Rattle.write_jobs.specs.layout_model.Places.{Geometry, reserve}
 use Rattle.write_jobs.specs.image_model.Room.{unused_blocks}
-use Rattle.write_jobs.specs.image_model.Volume.{inode}
-use Rattle.live_step_laws.specs.file_table.Files.{Files, size_in, spare_in}
+use Rattle.write_jobs.specs.image_model.Volume.{extents, inode, Volume}
+use Rattle.write_jobs.specs.extent_model.Extents.{disk_at}
+use Rattle.live_step_laws.specs.file_table.Files.{Files, runs_in, size_in, spare_in}
+use Rattle.write_plan.specs.file_overlay.Runs.{staged_at}
 use Rattle.zero_fill.specs.Zeros.{ReadZero}
 use Rattle.write_jobs.specs.k_split_model.View.{View}
 use Rattle.write_plan.specs.list_laws.Members.{In}
 use Rattle.posix_types.specs.declared.call.Call.{Call}
+use Rattle.posix_types.specs.declared.call.Mode.{Mode}
 use Rattle.posix_types.specs.declared.call.Who.{Who}
 use Rattle.posix_tables.specs.Open.{Tables}
 use Rattle.write_jobs.specs.commute_laws.Frames.{AreThreads}
 use Rattle.posix_laws.specs.Views.{need_of}
-use Rattle.posix_laws.specs.posix_spec.Put.{put_by}
+use Rattle.posix_laws.specs.posix_spec.Put.{Put, put_by}
 use Rattle.posix_laws.specs.posix_spec.State.{room, State}
 use Rattle.live_step_laws.specs.staging_files.declared.runs.StageRun.{StageRun}
 use Rattle.live_step_laws.specs.staging_files.Keeps.{AreApart, IsRunSingle, IsThere, Staged}
@@ -31,10 +34,25 @@ use Rattle.write_jobs.specs.Jobs.{blocks_of, JobView}
 abbrev pub with_parts : Kept → Staged → Files → Kept
 with_parts kept staging files = record kept { staging = staging; files = files }
 
--- THE WRITE CAN BE STAGED in this run: the World stands together; the call puts these bytes into the file of the target, at its
--- place, and finds room beside the jobs that are out, which are of other callers and other files; the file has the size of the
--- target, and what lies between its end and the block of the write reads zero; and the run is out, none of a live entry or of a
--- job, its blocks are there, and those that all runs want are free.
+-- the file has the block: in its map, or staged
+abbrev pub IsPresent : Volume → Files → ℕ → ℕ → Type 0
+IsPresent v files ino block = IsSome (disk_at (extents v ino) block) ⊎ IsSome (staged_at (runs_in files ino) block)
+
+-- THE CALL PUTS A WRITE OF WHICH THIS IS THE PART FROM HERE ON, into this node: the bytes before it lie below the file's old end, and end
+-- with a block; in strict mode there are none.
+pub record PutsFrom (s : State) (who : Who) (call : Call) (node : ℕ) (target : Target) (x : List ℕ) : Type 0 where
+  pub put : Put
+  pub is : put_by s who call ≡ Some put
+  pub node_is : put.node ≡ node
+  pub place : put.place ≤ target.start
+  pub bytes : x ≡ drop (target.start - put.place) put.bytes
+  pub front : put.place < target.start → (target.start ≤ target.size) × (target.start % 4096 ≡ 0) × (target.size ≤ put.place + length put.bytes)
+  pub strict : s.mode ≡ Mode.Strict → put.place ≡ target.start
+
+-- THE WRITE CAN BE STAGED in this run: the World stands together; the call puts a write of which these bytes are the part from the
+-- target's place on, of what lies before the file has the blocks, and it finds room beside the jobs that are out, which are of other
+-- callers and other files; the file has the size of the target, and what lies between its end and the block of the part reads zero;
+-- and the run is out, none of a live entry or of a job, its blocks are there, and those that all runs want are free.
 pub record Ready (k : View) (files : Files) (who : Who) (target : Target) (x : List ℕ) (run : StageRun) : Type 0 where
   pub g : Geometry
   pub t : Tables
@@ -47,7 +65,8 @@ pub record Ready (k : View) (files : Files) (who : Who) (target : Target) (x : L
   pub stands : StandsAt g k t (with_parts kept staging files) true n s
   pub file : (inode k.volume target.ino).kind ≡ File
   pub size_is : target.size ≡ size_in files target.ino
-  pub puts : put_by s who call ≡ Some (record { node = number stands.numbers target.ino; place = target.start; bytes = x })
+  pub puts : PutsFrom s who call (number stands.numbers target.ino) target x
+  pub present : (i : ℕ) → puts.put.place ≤ i → i < target.start → IsPresent k.volume files target.ino (i / 4096)
   pub fits : needs s stands.jobs + need_of s who call ≤ room s
   pub others : (j : Job) → In j stands.jobs → j.draft.ino ≢ target.ino
   pub callers : (p : JobOut) → In p kept.pending → AreThreads who p.who

@@ -14,17 +14,18 @@ use Rattle.write_plan.specs.posix_tables.Open.{Tables}
 use Rattle.write_jobs.specs.Jobs.{FilledView, HoldWords}
 use Rattle.write_jobs.specs.Loans.{ComeBack}
 use Rattle.write_plan.specs.Asks.{CanMoveBy, moved_by}
-use Rattle.write_end.specs.Ends.{CanFinish, HasJob, HasWrite, LeavesFinished}
+use Rattle.write_end.specs.Ends.{CanFinish, HasJob, HasWrite}
+use Rattle.write_end.specs.Landing.{HasLanded}
 use Rattle.write_end.proofs.Ending.{below, draft_is, split, stood}
-use Rattle.write_end.proofs.Finishes.{leaves_finished, may_move}
+use Rattle.write_end.proofs.Finishes.{lands, may_move}
 
 -- the numbers of an entry are in range
-record Ranges (d : Draft) : Type 0 where
-  in_file : d.file_block + d.count ≤ 4096
-  in_staging : d.staging_block + d.count ≤ 64
-  size : d.size ≤ LONGEST_FILE
+pub record Ranges (d : Draft) : Type 0 where
+  pub in_file : d.file_block + d.count ≤ 4096
+  pub in_staging : d.staging_block + d.count ≤ 64
+  pub size : d.size ≤ LONGEST_FILE
 
-ranges : (d : Draft) → is_draft d ≡ true → Ranges d
+pub ranges : (d : Draft) → is_draft d ≡ true → Ranges d
 ranges d is = record { in_file = grind (arith, nat_tests, is); in_staging = grind (arith, nat_tests, is); size = grind (arith, nat_tests, is) }
 
 -- What laying the run asks for.
@@ -56,12 +57,12 @@ may_move_by k job t files call who can same =
     (subst (λ (u : Tables). CanMoveBy u can.0.kept.files can.0.p.who can.0.p.call) can.1.tables (may_move k job can.0))))
 
 -- WHAT A FINISH LEAVES
-pub finish_leaves : (k l : View) (job : FilledView) (t u : Tables) (files new : Files) (call : Call) (slot : ℕ) → HoldWords job.loans job.words → ComeBack job.loans k.cells l.cells → l ≡ record k { cells = l.cells } → IsInOrder l
+pub finish_lands : (k l : View) (job : FilledView) (t u : Tables) (files new : Files) (call : Call) (slot : ℕ) → HoldWords job.loans job.words → ComeBack job.loans k.cells l.cells → l ≡ record k { cells = l.cells } → IsInOrder l
     → u ≡ moved_by t files job.who call → ChangesFile job.draft.ino (runs_in files job.draft.ino ++ run_of job.draft ∷ []) job.draft.size files new
-    → (has : HasJob k job) → HasWrite k job t files call has → LeavesFinished k job has slot l u new
-finish_leaves k l job t u files new call slot hold back same order moved lays has write =
-    leaves_finished k job has l.cells u new slot hold back (subst IsInOrder same order)
+    → (has : HasJob k job) → HasWrite k job t files call has → HasLanded k job has slot l u new
+finish_lands k l job t u files new call slot hold back same order moved lays has write =
+    lands k job has l.cells u new slot hold back (subst IsInOrder same order)
     (moved ∙ (λ i. moved_by (sym write.tables i) (sym write.files_are i) (has.out.who i) (sym write.call_is i)))
     (subst (λ (d : Draft). ChangesFile d.ino (runs_in has.kept.files d.ino ++ run_of d ∷ []) d.size has.kept.files new) has.out.draft
     (subst (λ (f : Files). ChangesFile job.draft.ino (runs_in f job.draft.ino ++ run_of job.draft ∷ []) job.draft.size f new) (sym write.files_are) lays))
-    write.strict l same
+    l same

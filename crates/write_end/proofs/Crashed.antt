@@ -38,7 +38,7 @@ use Rattle.write_jobs.specs.Jobs.{FilledView, loan_at}
 use Rattle.write_end.specs.Blocks.{AreBlocksOut, ComeHome}
 use Rattle.write_end.specs.CrashesLaws.{AreHandedIn, KeepsCrashed, KeepsHome, LinesAreHome}
 use Rattle.write_end.specs.Lines.{AreCrashLines}
-use Rattle.write_end.specs.Lost.{IsLostJob, IsLostWith}
+use Rattle.write_end.specs.Lost.{HoldLost, IsLostJob, IsLostWith}
 use Rattle.write_end.proofs.Ended.{holds_spelled, single_word, spells_job}
 use Rattle.write_end.proofs.Going.{calls_are}
 use Rattle.write_end.proofs.Jobs.{block_of, in_data_block, its_job, lent_any, no_slot, pending_of, same_job, sane, stood}
@@ -297,6 +297,18 @@ module _ (v : Volume) (d middle e : List Cell) (kept : Kept) (start : State) (hi
     old = lost.lines.old;
   }
 
+  -- those whose finish lost the power have their slots, and their lines hold their entries
+  hold_lost : (jobs : List Job) → ((j : Job) → In j jobs → In j lost.jobs) → HoldLost v (cell e) jobs (map slot_of jobs) lost.slot_of
+  hold_lost [] there = tt
+  hold_lost (j ∷ jobs) there = (
+    λ slot had. (
+      first_slot j slot had,
+      let held = crash.claimed slot j.draft (lost.slots_in j slot (there j (inl refl)) had) in
+          claimed_line v kept.first lines (cell e) again slot j.draft (in_log slot held.0) (spelled_job j (there j (inl refl))) held.1,
+    ),
+    hold_lost jobs (λ x is. there x (inr is)),
+  )
+
   -- ---- the blocks of jobs that claimed a slot
 
   module _ (image : Words) (image_is : IsImage e image) where
@@ -356,7 +368,7 @@ module _ (v : Volume) (d middle e : List Cell) (kept : Kept) (start : State) (hi
     pub keeps_image : IsHonest v.geometry (cell e) image → IsKept v.geometry start history (map begun_by kept.pending ++ last) image
     keeps_image honest =
         subst (λ (calls : List Unfinished). IsKept v.geometry start history (calls ++ last) image) (calls_are kept.pending lost.jobs lost.jobs_are)
-        (kept_of_all v.geometry start history (map slot_of lost.jobs) lost.jobs last image lost.mode (lost.promise (cell e) (map slot_of lost.jobs) image (put_back_now honest)))
+        (kept_of_all v.geometry start history (map slot_of lost.jobs) lost.jobs last image lost.mode (lost.promise (cell e) (map slot_of lost.jobs) image (put_back_now honest) (subst (λ c. HoldLost v c lost.jobs (map slot_of lost.jobs) lost.slot_of) (sym is_back) (hold_lost lost.jobs (λ j is. is)))))
 
 pub keeps_crashed : KeepsCrashed
 keeps_crashed v d middle e kept start history last loans filled taken lines lost handed crash comes home = (

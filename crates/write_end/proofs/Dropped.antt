@@ -1,5 +1,5 @@
 -- A job that has no slot is dropped: what is put back without it is put back with it.
-use Rattle.std.proofs.Common.{◌≡◌, ◌∷◌, ◌++◌, [], ℕ, List, Option, Some, None, refl, ap, subst, inl, inr}
+use Rattle.std.proofs.Common.{◌≡◌, ◌∷◌, ◌++◌, ◌∙◌, [], ℕ, List, Option, Some, None, refl, ap, sym, subst, inl, inr}
 use Rattle.oplog_entry.specs.pm_model.declared.Cell.{Cell}
 use Rattle.oplog_entry.specs.pm_model.Parts.{put_back}
 use Rattle.oplog_entry.specs.pm_model.Words.{Words}
@@ -10,11 +10,12 @@ use Rattle.k_split_laws.specs.list_laws.Members.{In}
 use Rattle.k_split_laws.specs.posix_types.declared.item.Item.{Item}
 use Rattle.k_split_laws.specs.posix_spec.Run.{Unfinished}
 use Rattle.k_split_laws.specs.posix_spec.State.{State}
-use Rattle.write_jobs.specs.world_image_laws.Back.{IsKeptBack, IsPutBack, jobs_in_log}
+use Rattle.write_jobs.specs.world_image_laws.Back.{IsPutBack, jobs_in_log}
 use Rattle.write_jobs.specs.world_image_laws.Promised.{IsKept}
 use Rattle.write_plan.specs.eof_laws.log_checkpoint.world_model.Jobs.{unfinished_call, Job}
 use Rattle.write_plan.specs.eof_laws.log_checkpoint.world_model.Lines.{AreJobLines, IsTaken}
 use Rattle.write_plan.specs.eof_laws.log_checkpoint.world_model.Shown.{AreFilled}
+use Rattle.write_end.specs.Lost.{HoldLost, IsKeptLost}
 use Rattle.std.specs.Prelude.{map}
 
 -- the slots, with none for the job behind these
@@ -67,12 +68,37 @@ put_with_none v d back first claims a j b slots image is = record {
   filled = filled_with_none v (journaled image) a j b slots is.filled;
 }
 
+-- one that claimed none holds none
+held_by_none : (v : Volume) (cells : ℕ → Cell) (slot_of : ℕ → Option ℕ) (a : List Job) (j : Job) (b : List Job) → slot_of j.draft.ino ≡ None → HoldLost v cells (a ++ b) [] slot_of → HoldLost v cells (a ++ j ∷ b) [] slot_of
+held_by_none v cells slot_of [] j b none hold = (none, hold)
+held_by_none v cells slot_of (x ∷ a) j b none hold = (hold.0, held_by_none v cells slot_of a j b none hold.1)
+
+held_with_none : (v : Volume) (cells : ℕ → Cell) (slot_of : ℕ → Option ℕ) (a : List Job) (j : Job) (b : List Job) (slots : List (Option ℕ)) → slot_of j.draft.ino ≡ None → HoldLost v cells (a ++ b) slots slot_of
+    → HoldLost v cells (a ++ j ∷ b) (with_none a slots) slot_of
+unfolding with_none
+held_with_none v cells slot_of [] j b slots none hold = ((λ slot had. absurd (never slot (sym none ∙ had))), hold) where
+  never : (slot : ℕ) → None ≡ Some slot → ⊥
+  never slot is = cc
+held_with_none v cells slot_of (x ∷ a) j b [] none hold = (hold.0, held_by_none v cells slot_of a j b none hold.1)
+held_with_none v cells slot_of (x ∷ a) j b (o ∷ slots) none hold = (hold.0, held_with_none v cells slot_of a j b slots none hold.1)
+
 -- THE PROMISE STAYS without it.
-pub kept_without : (v : Volume) (d : List Cell) (first : Words) (claims : List (ℕ × Draft)) (a : List Job) (j : Job) (b : List Job) (start : State) (history : List Item) (last : List Unfinished)
-    → IsKeptBack v d first claims (a ++ j ∷ b) start history last → IsKeptBack v d first claims (a ++ b) start history last
-kept_without v d first claims a j b start history last kept back slots image is =
+pub kept_without : (v : Volume) (d : List Cell) (first : Words) (claims : List (ℕ × Draft)) (a : List Job) (j : Job) (b : List Job) (slot_of : ℕ → Option ℕ) (start : State) (history : List Item) (last : List Unfinished)
+    → slot_of j.draft.ino ≡ None → IsKeptLost v d first claims (a ++ j ∷ b) slot_of start history last → IsKeptLost v d first claims (a ++ b) slot_of start history last
+kept_without v d first claims a j b slot_of start history last none kept back slots image is hold =
     subst (λ jobs. IsKept v.geometry start history (map unfinished_call jobs ++ last) image) (in_log_with_none a j b slots)
-    (kept back (with_none a slots) image (put_with_none v d back first claims a j b slots image is))
+    (kept back (with_none a slots) image (put_with_none v d back first claims a j b slots image is) (held_with_none v (put_back d back) slot_of a j b slots none hold))
+
+-- Where fewer jobs claimed a slot, no more is asked.
+pub held_by_fewer : (v : Volume) (cells : ℕ → Cell) (old new : ℕ → Option ℕ) → ((ino slot : ℕ) → old ino ≡ Some slot → new ino ≡ Some slot) → (jobs : List Job) (slots : List (Option ℕ)) → HoldLost v cells jobs slots new → HoldLost v cells jobs slots old
+held_by_fewer v cells old new more [] slots hold = tt
+held_by_fewer v cells old new more (j ∷ jobs) [] hold = (by (old j.draft.ino) refl, held_by_fewer v cells old new more jobs [] hold.1) where
+  by : (o : Option ℕ) → old j.draft.ino ≡ o → old j.draft.ino ≡ None
+  by None is = is
+  by (Some slot) is = absurd (never (sym hold.0 ∙ more j.draft.ino slot is)) where
+    never : None ≡ Some slot → ⊥
+    never same = cc
+held_by_fewer v cells old new more (j ∷ jobs) (o ∷ slots) hold = ((λ slot had. hold.0 slot (more j.draft.ino slot had)), held_by_fewer v cells old new more jobs slots hold.1)
 
 -- a job that is left was there
 pub left_in : (a : List Job) (j : Job) (b : List Job) (x : Job) → In x (a ++ b) → In x (a ++ j ∷ b)

@@ -32,7 +32,6 @@ use Rattle.k_split_laws.specs.volume_laws.LineWords.{data_word}
 use Rattle.k_split_laws.proofs.k_split_proofs.LogLaws.{data_beside}
 use Rattle.k_split_laws.specs.k_split.Laps.{IsLogWord}
 use Rattle.write_plan.specs.eof_laws.log_checkpoint.world_write_laws.JobSteps.{Valid-front}
-use Rattle.write_jobs.specs.world_image_laws.Back.{IsKeptBack}
 use Rattle.write_plan.specs.eof_laws.log_checkpoint.world_model.Lines.{AreLinesOut}
 use Rattle.write_plan.specs.eof_laws.log_checkpoint.world_model.JobLaws.{HoldsWhole-found, Valid-dropped}
 use Rattle.write_plan.specs.eof_laws.log_checkpoint.world_model.Jobs.{AreApartJobs, HoldsWhole, IsStagedIn, Job, JobStands, live_claims, staged_block, Valid}
@@ -44,8 +43,8 @@ use Rattle.write_end.specs.Ends.{IsOut}
 use Rattle.write_jobs.specs.Jobs.{FilledView, loan_at}
 use Rattle.write_end.specs.Blocks.{AreBlocksHome, AreHome}
 use Rattle.write_end.specs.LosingLaws.{claimed_by, ComesHome, ComesHomeAlone, FinishesLost, GivesUpLost, without_job}
-use Rattle.write_end.specs.Lost.{IsLostJob, IsLostWith}
-use Rattle.write_end.proofs.Dropped.{kept_without, left_in}
+use Rattle.write_end.specs.Lost.{HoldLost, IsKeptLost, IsLostJob, IsLostWith}
+use Rattle.write_end.proofs.Dropped.{held_by_fewer, kept_without, left_in}
 use Rattle.write_end.proofs.GivesUp.{whole_rest}
 use Rattle.write_end.proofs.Jobs.{block_of, blocks_home, in_data_block, its_job, lent_any, no_slot, none_common, same_job, sane, staged_of, stood}
 
@@ -55,16 +54,16 @@ single_word c w x is candidate = subst (λ y. IsCandidate (unmarked y) x) is can
 pub single_home : (c : Cell) (w : ℕ) → c ≡ Single w → is_lent (unmarked c) ≡ false
 single_home c w is = ap (λ y. is_lent (unmarked y)) is
 
-in_front : (xs : List (ℕ × Draft)) (y x : ℕ × Draft) → In x xs → In x (xs ++ y ∷ [])
+pub in_front : (xs : List (ℕ × Draft)) (y x : ℕ × Draft) → In x xs → In x (xs ++ y ∷ [])
 in_front [] y x is = absurd is
 in_front (z ∷ xs) y x (inl same) = inl same
 in_front (z ∷ xs) y x (inr rest) = inr (in_front xs y x rest)
 
-in_last : (xs : List (ℕ × Draft)) (y : ℕ × Draft) → In y (xs ++ y ∷ [])
+pub in_last : (xs : List (ℕ × Draft)) (y : ℕ × Draft) → In y (xs ++ y ∷ [])
 in_last [] y = inl refl
 in_last (z ∷ xs) y = inr (in_last xs y)
 
-own_job : (a : List Job) (j : Job) (b : List Job) → In j (a ++ j ∷ b)
+pub own_job : (a : List Job) (j : Job) (b : List Job) → In j (a ++ j ∷ b)
 own_job [] j b = inl refl
 own_job (x ∷ a) j b = inr (own_job a j b)
 
@@ -219,13 +218,13 @@ module _ (v : Volume) (d e : List Cell) (kept : Kept) (start : State) (history :
         ap (λ b. cond b (put_back e cells i) (cell d i)) home_i
         ∙ (sym (still i home_i) ∙ sym (ap (λ b. cond b (cells i) (cell e i)) (ap is_lent (still i home_i) ∙ home_i)))
 
-  promise : IsKeptBack v e kept.first lost.done lost.jobs start history last
-  promise cells slots image put = lost.promise (put_back e cells) slots image (record {
+  promise : (slots_of : ℕ → Option ℕ) → ((ino slot : ℕ) → lost.slot_of ino ≡ Some slot → slots_of ino ≡ Some slot) → IsKeptLost v e kept.first lost.done lost.jobs slots_of start history last
+  promise slots_of more cells slots image put hold = lost.promise (put_back e cells) slots image (record {
     lines = subst (λ c. AreLinesOut v c kept.first lost.done lost.jobs slots) (sym (same_cells cells)) put.lines;
     image_is = subst (λ (c : ℕ → Cell). (i : ℕ) → IsCandidate (c i) (image i)) (sym (same_cells cells)) put.image_is;
     honest = subst (λ c. IsHonest v.geometry c image) (sym (same_cells cells)) put.honest;
     filled = put.filled;
-  })
+  }) (subst (λ c. HoldLost v c lost.jobs slots lost.slot_of) (sym (same_cells cells)) (held_by_fewer v (put_back e cells) lost.slot_of slots_of more lost.jobs slots hold))
 
   -- ---- its blocks, and those of others
 
@@ -293,8 +292,8 @@ module _ (v : Volume) (d e : List Cell) (kept : Kept) (start : State) (history :
     each_job = λ x at. others_lost x (left_job x at) at (lost.slot_of x.draft.ino) (lost.each_job x (left_job x at));
     home = home_left;
     promise =
-        kept_without v e kept.first lost.done split.a j split.b start history last
-        (subst (λ jobs. IsKeptBack v e kept.first lost.done jobs start history last) split.jobs_are promise);
+        kept_without v e kept.first lost.done split.a j split.b lost.slot_of start history last no_slot_yet
+        (subst (λ jobs. IsKeptLost v e kept.first lost.done jobs lost.slot_of start history last) split.jobs_are (promise lost.slot_of (λ ino n had. had)));
   }
 
   -- ---- it finishes
@@ -370,7 +369,7 @@ module _ (v : Volume) (d e : List Cell) (kept : Kept) (start : State) (history :
             (others_lost x at other (lost.slot_of x.draft.ino) (lost.each_job x at))
       ];
       home = home;
-      promise = promise;
+      promise = promise slots (λ ino n had. other_slot ino (had_slot ino n had) ∙ had);
     }
 
 pub finishes_lost : FinishesLost

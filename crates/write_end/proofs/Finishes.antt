@@ -1,22 +1,22 @@
--- A write finishes: the World stands together without it.
-use Rattle.std.proofs.Common.{◌≡◌, ◌≢◌, ◌⊎◌, ◌≤◌, ◌<◌, ◌+◌, ◌==◌, ◌++◌, ◌∷◌, [], not, cond, ℕ, Bool, true, false, List, length, refl, arith, ap, ◌∙◌, sym, subst, inl, inr}
-use Rattle.std.specs.Prelude.{Contains}
+-- A write finishes: it has landed, and the World stands together without it.
+use Rattle.std.proofs.Common.{◌≡◌, ◌≢◌, ◌⊎◌, ◌≤◌, ◌<◌, ◌+◌, ◌*◌, ◌/◌, ◌%◌, ◌==◌, ◌++◌, ◌∷◌, [], not, cond, ℕ, Bool, true, false, List, length, Some, refl, arith, ap, ◌∙◌, sym, subst, inl, inr}
+use Rattle.std.specs.Prelude.{Contains, slice_index}
 use Rattle.std.proofs.lemmas.List.{length-append, length_push}
 use Rattle.std.proofs.lemmas.List.Kept.{AllPairs-filter}
 use Rattle.std.proofs.lemmas.Option.{same_Some}
-use Rattle.posix_types.specs.declared.call.Mode.{Mode}
 use Rattle.write_plan.specs.pm_model.declared.Cell.{Cell}
-use Rattle.write_plan.specs.pm_model.ImageLaws.{IsImage-words_of}
-use Rattle.write_plan.specs.pm_model.Images.{words_of}
+use Rattle.write_plan.specs.pm_model.Cells.{cell, IsCandidate}
+use Rattle.write_plan.specs.pm_model.Images.{IsImage}
 use Rattle.write_plan.specs.pm_model.Words.{Words}
 use Rattle.write_plan.specs.layout_model.Journal.{journaled}
+use Rattle.write_plan.specs.layout_model.PlaceLaws.{behind_log-not_journaled, behind_log-words}
 use Rattle.write_plan.specs.layout_model.Places.{Geometry}
 use Rattle.layout_model.specs.declared.lines.Draft.{Draft}
 use Rattle.layout_model.specs.declared.lines.Kind.{Kind}
 use Rattle.layout_model.specs.declared.lines.Kind.TheVariants.{Directory, File, Free, Staging}
 use Rattle.write_jobs.specs.world_image_laws.image_model.Live.{is_live}
 use Rattle.write_jobs.specs.world_image_laws.image_model.Volume.{inode, Volume}
-use Rattle.live_model.specs.posix_laws.Orders.{AreOrdered-step_of}
+use Rattle.live_model.specs.posix_laws.Orders.{AreOrdered, AreOrdered-step_of}
 use Rattle.write_plan.specs.file_table.Files.{ChangesFile, Files, runs_in, size_in}
 use Rattle.write_jobs.specs.world_image_laws.k_split_model.View.{View}
 use Rattle.write_jobs.specs.k_split.Order.{IsInOrder}
@@ -30,23 +30,32 @@ use Rattle.write_plan.specs.posix_tables.Nodes.{bytes_of, node_at}
 use Rattle.write_plan.specs.posix_tables.Open.{is_open, same_who, Tables}
 use Rattle.write_plan.specs.posix_laws.Puts.{put_bytes, PutsWhole}
 use Rattle.write_plan.specs.posix_spec.Run.{after_call, Unfinished}
-use Rattle.write_plan.specs.posix_spec.State.{alone, State}
-use Rattle.write_jobs.specs.world_image_laws.world_model.JobLaws.{live_claims-more}
+use Rattle.write_plan.specs.posix_spec.State.{alone, State, with_file}
+use Rattle.write_jobs.specs.world_model.crash_spec.Sync.{with_bytes}
+use Rattle.write_jobs.specs.world_image_laws.world_model.JobLaws.{acted, HoldsWhole-found, live_claims-more}
 use Rattle.write_jobs.specs.world_image_laws.world_model.TreeRules.{used_below}
-use Rattle.write_jobs.specs.world_image_laws.world_model.Jobs.{unfinished_call, live_claims}
+use Rattle.write_jobs.specs.world_image_laws.world_model.Jobs.{HoldsWhole, live_claims, staged_block, unfinished_call}
 use Rattle.write_jobs.specs.world_image_laws.world_model.Stands.{entries_of, FileStands, is_used, NodeStands, number}
-use Rattle.write_jobs.specs.Jobs.{FilledView, HoldWords}
+use Rattle.write_jobs.specs.world_image_laws.Changed.{sound_headed}
+use Rattle.write_jobs.specs.world_image_laws.volume_laws.ImageLaws.{journaled-other}
+use Rattle.write_jobs.specs.world_image_laws.volume_laws.LineWords.{data_word}
+use Rattle.write_jobs.specs.Jobs.{FilledView, HoldWords, loan_at}
 use Rattle.write_jobs.specs.Loans.{ComeBack}
 use Rattle.live_model.specs.Flying.{IsFlying, with_entry}
-use Rattle.live_model.proofs.FlightsFlights.{flies_finished}
+use Rattle.live_model.proofs.FlightsFlights.{flies_landed}
 use Rattle.write_jobs.specs.Blocks.{SpellWhole}
 use Rattle.live_model.specs.Standing.{AreOfTwoThreads, file_state, IsQuietBeside, IsSpellable, JobOut, reserved_run, StandsAt}
 use Rattle.live_model.specs.Jobs.{SpellCall, without}
 use Rattle.write_plan.specs.Asks.{CanMoveBy, moved_by}
 use Rattle.write_plan.specs.AsksLaws.{AreOfState}
 use Rattle.write_plan.proofs.Calls.{may_move as may_move_there, moves_as_call, open_moved}
-use Rattle.write_end.specs.Ends.{finished, HasJob, LeavesFinished}
-use Rattle.write_end.proofs.Ending.{claims, flying, is_file, j, loans_count, numbers, others, put_back, spelled, split, stood, v, valid, words}
+use Rattle.write_end.specs.Ends.{finished, HasJob}
+use Rattle.write_end.specs.Landing.{HasLanded}
+use Rattle.write_end.proofs.Ending.{claims, flying, is_file, j, loans_count, numbers, others, place_is, put_back, spelled, split, stood, v, valid, words}
+use Rattle.write_end.proofs.Ended.{holds_spelled, single_word}
+use Rattle.write_end.proofs.Fliers.{others_fly, present_on, whole_own}
+use Rattle.write_end.proofs.Homes.{has_blocks_out}
+use Rattle.write_end.proofs.Jobs.{in_data_block}
 use Rattle.write_end.proofs.Laid.{bare_still, overlays_are, sizes_are}
 use Rattle.write_end.proofs.EndsPending.{apart_of, IsJobOf, job_of, left_there, stands_of}
 use Rattle.write_end.proofs.Settled.{agrees_still, free_single_still, lines_still, quiet_still}
@@ -78,6 +87,14 @@ file_node v live f ino File (Node.File x) file is = is
 -- what a call puts is one thing
 puts_one : (s : State) (who : Who) (call : Call) (m n : ℕ) (a b : List ℕ) → PutsWhole s who call m a → PutsWhole s who call n b → a ≡ b
 puts_one s who call m n a b one two = sym one.whole_is ∙ (ap (put_bytes s) (same_Some one.put two.put (sym one.is ∙ two.is)) ∙ two.whole_is)
+
+same_tables : (x : State) (n : ℕ) (bytes : List ℕ) → (with_bytes x n bytes).tables ≡ x.tables
+unfolding with_file
+same_tables x n bytes = refl
+
+same_entries : (x : State) (n : ℕ) (bytes : List ℕ) → (with_bytes x n bytes).entries ≡ x.entries
+unfolding with_file
+same_entries x n bytes = refl
 
 module _ (k : View) (job : FilledView) (has : HasJob k job) where
   length_at : (ino : ℕ) → is_open has.t ino ≡ true → length (bytes_of (node_at has.s.nodes (number (numbers k job has) ino))) ≡ size_in has.kept.files ino
@@ -111,12 +128,13 @@ module _ (k : View) (job : FilledView) (has : HasJob k job) where
 
   module _ (e : List Cell) (u : Tables) (new : Files) (slot : ℕ) (hold : HoldWords job.loans job.words) (back : ComeBack job.loans k.cells e) (order : IsInOrder (record k { cells = e }))
       (moved : u ≡ moved_by has.t has.kept.files has.p.who has.p.call)
-      (lays : ChangesFile has.p.draft.ino (runs_in has.kept.files has.p.draft.ino ++ run_of has.p.draft ∷ []) has.p.draft.size has.kept.files new) (strict : has.s.mode ≡ Mode.Strict) where
+      (lays : ChangesFile has.p.draft.ino (runs_in has.kept.files has.p.draft.ino ++ run_of has.p.draft ∷ []) has.p.draft.size has.kept.files new) where
     abbrev d : Draft
     d = has.p.draft
 
+    -- the state with what is found of it
     abbrev next : State
-    next = after_call has.s (has.p.who, has.p.call)
+    next = acted (numbers k job has) has.s (j k job has)
 
     abbrev claims_then : List (ℕ × Draft)
     claims_then = has.kept.claims ++ (slot, d) ∷ []
@@ -126,11 +144,10 @@ module _ (k : View) (job : FilledView) (has : HasJob k job) where
 
     now : IsFlying k.volume e claims_then (others k job has) (with_entry (file_state has.kept.files) d) (numbers k job has) next has.stands.count
     now =
-        subst (λ (c : Unfinished). IsFlying k.volume e claims_then (others k job has) (with_entry (file_state has.kept.files) d) (numbers k job has) (after_call has.s c) has.stands.count) begun_is
-        (subst (λ (x : Draft). IsFlying k.volume e (has.kept.claims ++ (slot, x) ∷ []) (others k job has) (with_entry (file_state has.kept.files) x) (numbers k job has) (after_call has.s (unfinished_call (j k job has))) has.stands.count)
+        subst (λ (x : Draft). IsFlying k.volume e (has.kept.claims ++ (slot, x) ∷ []) (others k job has) (with_entry (file_state has.kept.files) x) (numbers k job has) next has.stands.count)
         (split k job has).draft
-        (flies_finished k.volume k.cells e (claims k job has) (split k job has).a (j k job has) (split k job has).b (file_state has.kept.files) (numbers k job has) has.s has.stands.count slot job.loans job.words (flying k job has) strict
-        (put_back k job has e back) (loans_count k job has) hold (spelled k job has)))
+        (flies_landed k.volume k.cells e (claims k job has) (split k job has).a (j k job has) (split k job has).b (file_state has.kept.files) (numbers k job has) has.s has.stands.count slot job.loans job.words (flying k job has)
+        (put_back k job has e back) (loans_count k job has) hold (spelled k job has))
 
     alive : is_live k.volume d ≡ true
     alive = subst (λ (x : Draft). is_live k.volume x ≡ true) (split k job has).draft (stood k job has).alive
@@ -152,8 +169,10 @@ module _ (k : View) (job : FilledView) (has : HasJob k job) where
 
     tables : next.tables ≡ numbered_as (number (numbers k job has)) u
     tables =
-        moves_as_call has.s (number (numbers k job has)) has.t has.kept.files has.p.who has.p.call puts.put of_state puts.is
-        ∙ ap (numbered_as (number (numbers k job has))) (sym moved)
+        same_tables (after_call has.s (unfinished_call (j k job has))) (number (numbers k job has) (j k job has).draft.ino) (j k job has).found
+        ∙ ap (λ (c : Unfinished). (after_call has.s c).tables) begun_is
+        ∙ (moves_as_call has.s (number (numbers k job has)) has.t has.kept.files has.p.who has.p.call puts.put of_state puts.is
+        ∙ ap (numbered_as (number (numbers k job has))) (sym moved))
 
     -- THE WORLD STANDS TOGETHER
     stands : StandsAt has.g (record k { cells = e }) u (finished has.kept slot has.p new) true (has.n + 1) next
@@ -181,7 +200,8 @@ module _ (k : View) (job : FilledView) (has : HasJob k job) where
       callers = AllPairs-filter AreOfTwoThreads (λ (q : JobOut). not (same_who q.who has.p.who)) has.kept.pending has.stands.callers;
       tables = tables;
       open_are_files = λ ino is. has.stands.open_are_files ino (sym (open_moved has.t has.kept.files has.p.who has.p.call ino) ∙ (ap (λ (x : Tables). is_open x ino) (sym moved) ∙ is));
-      ordered = AreOrdered-step_of alone has.s has.p.who has.p.call has.stands.ordered;
+      ordered = subst AreOrdered (sym (same_entries (after_call has.s (unfinished_call (j k job has))) (number (numbers k job has) (j k job has).draft.ino) (j k job has).found))
+          (AreOrdered-step_of alone has.s (j k job has).who (j k job has).call has.stands.ordered);
       sizes = sizes_are d has.kept.files new lays below k.volume (live_claims k.volume claims_then) now.overlays file (live_claims k.volume has.kept.claims) has.stands.sizes;
       bare = bare_still d has.kept.files new lays below k.volume (live_claims k.volume claims_then) now.overlays file has.stands.bare;
       staged = has.stands.staged;
@@ -215,7 +235,7 @@ module _ (k : View) (job : FilledView) (has : HasJob k job) where
     }
 
     -- the others are to hold the same words
-    words_stay : (q : JobOut) (ws : List ℕ) → In q (without has.p.who has.kept.pending) → SpellCall has.s q ws → SpellCall next q ws
+    words_stay : (q : JobOut) (ws : List ℕ) → In q (without has.p.who has.kept.pending) → SpellCall has.s q ws → SpellCall (after_call has.s (has.p.who, has.p.call)) q ws
     words_stay q ws is spells node whole puts_now =
         subst (SpellWhole q.draft ws) (sym same) (spells (number (numbers k job has) its.job.draft.ino) its.job.whole before) where
           its : IsJobOf q (others k job has)
@@ -229,15 +249,55 @@ module _ (k : View) (job : FilledView) (has : HasJob k job) where
           before : PutsWhole has.s q.who q.call (number (numbers k job has) its.job.draft.ino) its.job.whole
           before = of_q has.s (stands_of k.volume (live_claims k.volume has.kept.claims) (words k job has) (numbers k job has) has.s (others k job has) its.job (valid k job has).out.2 its.there).puts
 
-          after : PutsWhole next q.who q.call (number (numbers k job has) its.job.draft.ino) its.job.whole
+          after : PutsWhole (after_call has.s (has.p.who, has.p.call)) q.who q.call (number (numbers k job has) its.job.draft.ino) its.job.whole
           after =
-              of_q next (stands_of k.volume (live_claims k.volume claims_then) (journaled (words_of e)) (numbers k job has) next (others k job has) its.job
-              (now.device.world (words_of e) (IsImage-words_of e)).valid.out its.there).puts
+              of_q (after_call has.s (has.p.who, has.p.call))
+              (subst (λ (c : Unfinished). PutsWhole (after_call has.s c) its.job.who its.job.call (number (numbers k job has) its.job.draft.ino) its.job.whole) begun_is
+              (others_fly k job has (split k job has).a (j k job has) (split k job has).b (split k job has).jobs_are its.job its.there).puts)
 
           same : whole ≡ its.job.whole
-          same = puts_one next q.who q.call node (number (numbers k job has) its.job.draft.ino) whole its.job.whole puts_now after
+          same = puts_one (after_call has.s (has.p.who, has.p.call)) q.who q.call node (number (numbers k job has) its.job.draft.ino) whole its.job.whole puts_now after
 
-    pub leaves_finished : (l : View) → l ≡ record k { cells = e } → LeavesFinished k job has slot l u new
+    -- its blocks hold what is found of it
+    held : (image : Words) → IsImage e image → HoldsWhole k.volume (journaled image) (j k job has).draft (j k job has).found
+    held image image_is =
+        HoldsWhole-found k.volume (live_claims k.volume has.kept.claims) (words k job has) (journaled image) (numbers k job has) has.s (j k job has) (stood k job has)
+        (holds_spelled k.volume image (j k job has).draft job.words (j k job has).whole has_words (spelled k job has)) where
+          has_words : (n b : ℕ) → n < (j k job has).draft.count → staged_block k.volume (j k job has).draft n ≡ Some b → (w : ℕ) → w / 512 ≡ b → journaled image w ≡ slice_index job.words (512 * n + w % 512)
+          has_words n b below at w word =
+              let within : n < length job.loans = omega (arith, below, loans_count k job has) in
+              let there : w / 512 ≡ (loan_at job.loans n).place = word ∙ place_is k job has n b below at in
+              let in_data = in_data_block k.volume (valid k job has).stands.sane (j k job has).draft n b (stood k job has).staging at in
+              let behind = data_word k.volume.geometry b (w % 512) in_data (omega arith) in
+              let read : journaled image w ≡ image w =
+              journaled-other k.volume.geometry image w (sound_headed k.volume.geometry image (now.device.headed image image_is)) (behind_log-words k.volume.geometry w (omega (arith, word, behind)))
+              (behind_log-not_journaled k.volume.geometry (w / 8) (omega (arith, word, behind)))
+              in
+              read
+              ∙ single_word (cell (loan_at job.loans n).cells (w % 512)) (slice_index job.words (512 * n + w % 512)) (image w) (hold n (w % 512) within (omega arith))
+              (subst (λ c. IsCandidate c (image w)) (back.words n w within there) (image_is w))
+
+    pub lands : (l : View) → l ≡ record k { cells = e } → HasLanded k job has slot l u new
     unfolding stands
-    leaves_finished l same =
-        subst (λ (w : View). LeavesFinished k job has slot w u new) (sym same) (record { stands = stands; numbers = refl; words = words_stay })
+    lands l same =
+        subst (λ (w : View). HasLanded k job has slot w u new) (sym same) (record {
+          a = (split k job has).a;
+          j = j k job has;
+          b = (split k job has).b;
+          jobs_are = (split k job has).jobs_are;
+          who = (split k job has).who;
+          call = (split k job has).call;
+          draft = (split k job has).draft;
+          whole = λ strict. whole_own (split k job has).a (j k job has) (split k job has).b ((flying k job has).whole strict);
+          parts = (stood k job has).parts;
+          present =
+              present_on k job has (split k job has).a (j k job has) (split k job has).b (split k job has).jobs_are new d
+              (subst (λ (x : Draft). runs_in new x.ino ≡ runs_in has.kept.files x.ino ++ run_of d ∷ []) (sym (split k job has).draft) lays.runs_are);
+          stands = stands;
+          rest = refl;
+          held = held;
+          numbers = refl;
+          same = refl;
+          home = record { out = has.out; lent = has_blocks_out has.g k has.t has.kept has.n has.s has.p has.stands has.out.there; holds = hold; back = back };
+          words = words_stay;
+        })

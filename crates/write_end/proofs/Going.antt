@@ -53,7 +53,7 @@ loses_call g k t kept n start history last e mode stands spelled left keeps = re
   sound = λ image is. subst (λ (x : Geometry). IsSound x image) (sym stands.geometry) (left.sound image is);
   each_job = λ j is. inr (λ m b i below at word. left.lent i ∙ stands.flying.out j is m b i below at word);
   home = λ i lent. stands.flying.home i (sym (left.lent i) ∙ lent);
-  promise = keeps mode;
+  promise = λ back slots image put hold. keeps mode back slots image put;
 } where
   stood : (j : Job) → In j stands.jobs → JobStands k.volume (live_claims k.volume kept.claims) (journaled (words_of k.cells)) stands.numbers (run start history) j
   stood j is =

@@ -1,13 +1,16 @@
 mod Asked
 mod Ending
 mod Finishes
+mod Fliers
 mod GivesUp
 mod Laid
+mod Landed
 mod EndsPending
 mod Settled
 pub mod LosingPending
 pub mod Jobs
 pub mod Going
+mod Cut
 mod Dropped
 pub mod Ended
 pub mod Homes

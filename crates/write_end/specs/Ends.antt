@@ -1,5 +1,5 @@
 -- What the end of a logged write finds of a World, and what it leaves.
-use Rattle.std.specs.Prelude.{◌≡◌, ◌+◌, ℕ, true, List, [], ◌∷◌, ◌++◌}
+use Rattle.std.specs.Prelude.{◌≡◌, ◌≢◌, ◌+◌, ℕ, true, List, [], ◌∷◌, ◌++◌}
 use Rattle.write_plan.specs.layout_model.Places.{Geometry}
 use Rattle.write_plan.specs.file_table.Files.{Files}
 use Rattle.write_jobs.specs.world_image_laws.k_split_model.View.{View}
@@ -43,12 +43,12 @@ call_out k job has = (has.p.who, has.p.call)
 
 -- ---- it finishes
 
--- It has these tables and this file table, the job is of this call, and the mode is strict.
+-- It has these tables and this file table, the job is of this call, and the mode is strict or sync.
 pub record HasWrite (k : View) (job : FilledView) (t : Tables) (files : Files) (call : Call) (has : HasJob k job) : Type 0 where
   pub tables : has.t ≡ t
   pub files_are : has.kept.files ≡ files
   pub call_is : has.p.call ≡ call
-  pub strict : has.s.mode ≡ Mode.Strict
+  pub mode : has.s.mode ≢ Mode.Posix
 
 abbrev pub CanFinish : View → FilledView → Tables → Files → Call → Type 0
 CanFinish k job t files call = (has : HasJob k job) × HasWrite k job t files call has

@@ -4,6 +4,7 @@ pub mod Lines
 pub mod Lost
 pub mod LosingLaws
 pub mod Stops
+pub mod Landing
 pub mod CrashesLaws
 pub use Rattle.k_split_laws.specs.block_io
 pub use Rattle.oplog_entry.specs.image_model

@@ -1,8 +1,9 @@
 -- A World whose power went while log lines and blocks of jobs are out.
-use Rattle.std.specs.Prelude.{◌≡◌, ◌≢◌, ◌⊎◌, ℕ, true, AllPairs, List, Option, Some, None}
+use Rattle.std.specs.Prelude.{◌≡◌, ◌≢◌, ◌⊎◌, ℕ, true, AllPairs, List, [], ◌∷◌, ◌++◌, Option, Some, None}
 use Rattle.oplog_entry.specs.pm_model.declared.Cell.{Cell}
 use Rattle.oplog_entry.specs.pm_model.Cells.{cell, is_lent}
 use Rattle.oplog_entry.specs.pm_model.Images.{IsImage}
+use Rattle.oplog_entry.specs.pm_model.Parts.{put_back}
 use Rattle.oplog_entry.specs.pm_model.Words.{Words}
 use Rattle.oplog_entry.specs.layout_model.Journal.{IsSound, journaled}
 use Rattle.oplog_entry.specs.layout_model.declared.lines.Draft.{Draft}
@@ -15,7 +16,9 @@ use Rattle.k_split_laws.specs.posix_types.declared.item.Item.{Item}
 use Rattle.write_plan.specs.eof_laws.log_checkpoint.posix_laws.Puts.{PutsWhole}
 use Rattle.k_split_laws.specs.posix_spec.Run.{Unfinished, run}
 use Rattle.k_split_laws.specs.posix_spec.State.{State}
-use Rattle.write_jobs.specs.world_image_laws.Back.{IsKeptBack}
+use Rattle.write_jobs.specs.world_image_laws.Back.{calls_in_log, IsPutBack}
+use Rattle.write_jobs.specs.world_image_laws.Promised.{IsKept}
+use Rattle.write_plan.specs.eof_laws.log_checkpoint.world_model.Lines.{IsClaimedLine}
 use Rattle.write_plan.specs.eof_laws.log_checkpoint.world_model.Jobs.{HoldsWhole, Job}
 use Rattle.write_jobs.specs.world_image_laws.LentLaws.{AreFound}
 use Rattle.live_model.specs.Standing.{AreJobsOf, AreLinesLent, AreOfTwoThreads, HasItsBlocks, IsSpellable, Kept, JobOut}
@@ -27,6 +30,18 @@ use Rattle.write_end.specs.Blocks.{AreHome}
 abbrev pub IsLostJob : Volume → List Cell → Job → Option ℕ → Type 0
 IsLostJob v cells j (Some slot) = AreHome v j.draft cells × ((image : Words) → IsImage cells image → HoldsWhole v (journaled image) j.draft j.found)
 IsLostJob v cells j None = AreHome v j.draft cells ⊎ AreOut v j.draft cells
+
+-- The jobs whose finish lost the power have the slots that they claimed, and the lines there hold their entries.
+abbrev pub HoldLost : Volume → (ℕ → Cell) → List Job → List (Option ℕ) → (ℕ → Option ℕ) → Type 0
+HoldLost v cells [] slots slot_of = Unit {0}
+HoldLost v cells (j ∷ jobs) [] slot_of = (slot_of j.draft.ino ≡ None) × HoldLost v cells jobs [] slot_of
+HoldLost v cells (j ∷ jobs) (o ∷ slots) slot_of = ((slot : ℕ) → slot_of j.draft.ino ≡ Some slot → (o ≡ Some slot) × IsClaimedLine v cells slot j.draft) × HoldLost v cells jobs slots slot_of
+
+-- THE PROMISE then, once all is put back: each image is kept in whose log they hold so, by the jobs whose entry may stand there.
+abbrev pub IsKeptLost : Volume → List Cell → Words → List (ℕ × Draft) → List Job → (ℕ → Option ℕ) → State → List Item → List Unfinished → Type 0
+IsKeptLost v d first claims jobs slot_of start history last =
+    (back : ℕ → Cell) (slots : List (Option ℕ)) (image : Words) → IsPutBack v d back first claims jobs slots image → HoldLost v (put_back d back) jobs slots slot_of
+    → IsKept v.geometry start history (calls_in_log slots jobs ++ last) image
 
 -- THE POWER IS LOST, while the log lines are out. The jobs are those that are kept as out, of each of which all bytes are found in strict
 -- mode. Of the claims some were finished (`done`); the
@@ -57,4 +72,4 @@ pub record IsLostWith (v : Volume) (cells : List Cell) (kept : Kept) (start : St
   pub sound : (image : Words) → IsImage cells image → IsSound v.geometry image
   pub each_job : (j : Job) → In j jobs → IsLostJob v cells j (slot_of j.draft.ino)
   pub home : (i : ℕ) → is_lent (cell cells i) ≡ true → IsOut v jobs i
-  pub promise : IsKeptBack v cells kept.first done jobs start history last
+  pub promise : IsKeptLost v cells kept.first done jobs slot_of start history last

@@ -1,12 +1,13 @@
-//! The end of a logged write in strict mode.
+//! The end of a logged write, in strict and in sync mode.
 //!
 //! A write is out from its beginning on: its blocks are lent. `finish_write` puts them back as they were
 //! filled, moves the offset behind them, lays the run of the entry over the file, and claims the entry in
-//! its slot: its call has acted. `give_up_write` puts the blocks back and gives the staged run back: as if
-//! the call had not begun. Neither takes memory or makes a step.
+//! its slot: in strict mode its call has acted, in sync mode but for its bytes before the first block of the
+//! entry. `give_up_write` puts the blocks back and gives the staged run back: as if the call had not begun.
+//! Neither takes memory or makes a step.
 //!
 //! The layer above may rely on this: where a World stands together with the write among those that are out,
-//! it stands together without it afterwards (`LeavesFinished`, `LeavesGivenUp`); the device changes at the
+//! it stands together without it afterwards (`HasLanded`, `LeavesFinished`, `LeavesGivenUp`); the device changes at the
 //! blocks of the write alone; and what other writes that are out are to hold stays what it was. What comes
 //! of them once the power is off is said by `losing`.
 

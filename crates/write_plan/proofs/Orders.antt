@@ -2,7 +2,6 @@
 use Rattle.std.proofs.Common.{◌≡◌, ◌≤◌, ◌<◌, ◌+◌, ◌-◌, ◌/◌, ◌^◌, ◌==◌, ◌&&◌, ◌∷◌, [], ℕ, true, List, length, get_or, refl, arith, ap, ◌∙◌, sym, subst}
 use Rattle.std.specs.Prelude.{Contains, map, max, nat_lt}
 use Rattle.std.proofs.lemmas.Bool.Decides.{nat_tests}
-use Rattle.posix_types.specs.declared.call.Mode.{Mode}
 use Rattle.file_table.specs.pm_model.ImageLaws.{IsImage-words_of}
 use Rattle.file_table.specs.pm_model.Images.{words_of}
 use Rattle.layout_model.specs.declared.lines.Draft.{Draft}
@@ -18,7 +17,8 @@ use Rattle.live_model.specs.staging_files.declared.runs.StageRun.{StageRun}
 use Rattle.live_model.specs.staging_files.Keeps.{given_to, IsPlaced, IsStaged, Staged}
 use Rattle.live_model.specs.world_model.Jobs.{live_claims}
 use Rattle.live_model.specs.world_model.Stands.{Consecutive, entries_of}
-use Rattle.write_plan.specs.Drafts.{draft_in, DraftsAreNext, order_behind, staged_count}
+use Rattle.write_plan.specs.Drafts.{draft_in, DraftsAreNext, order_behind}
+use Rattle.eof_laws.specs.block_io.Overwrites.{blocks_reached}
 
 -- the order of the last run, and one
 pub behind_last : (applied : ℕ) (run : Run) (runs : List Run) (d : Run) → order_behind applied (run ∷ runs) ≡ (get_or (run ∷ runs) (length runs) d).order + 1
@@ -42,7 +42,7 @@ in_range : (count order file_block staging staging_block size ino generation sta
 in_range count order file_block staging staging_block size ino generation staging_generation a b c d e f g h i = grind (arith, nat_tests)
 
 -- how many blocks are staged
-few_staged : (start len : ℕ) → 1 ≤ len → len ≤ 131072 → start + len ≤ LONGEST_FILE → (1 ≤ staged_count Mode.Strict 0 start len) × (staged_count Mode.Strict 0 start len ≤ 33) × (start / 4096 + staged_count Mode.Strict 0 start len ≤ 4096)
+few_staged : (start len : ℕ) → 1 ≤ len → len ≤ 131072 → start + len ≤ LONGEST_FILE → (1 ≤ blocks_reached start len) × (blocks_reached start len ≤ 33) × (start / 4096 + blocks_reached start len ≤ 4096)
 few_staged start len some most fits = (omega (arith, some), omega (arith, most), omega (arith, fits, some))
 
 -- a run that is out is in its place
@@ -80,5 +80,5 @@ drafts_are_next g k t kept lines n s target len run stands few file has = record
   placed : IsPlaced kept.staging run
   placed = placed_of kept.staging run stands.staged has.out
 
-  blocks : (1 ≤ staged_count Mode.Strict target.size target.start len) × (staged_count Mode.Strict target.size target.start len ≤ 33) × (target.start / 4096 + staged_count Mode.Strict target.size target.start len ≤ 4096)
+  blocks : (1 ≤ blocks_reached target.start len) × (blocks_reached target.start len ≤ 33) × (target.start / 4096 + blocks_reached target.start len ≤ 4096)
   blocks = few_staged target.start len has.some has.most has.fits

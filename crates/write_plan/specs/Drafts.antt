@@ -1,7 +1,8 @@
--- The entry of a logged write in strict mode.
+-- The entry of a logged write, or of the part of it that is staged.
 use Rattle.block_counts.specs.declared.TheConstants.{LONGEST_WRITE}
 use Rattle.std.specs.Option.{option_map_or}
 use Rattle.std.specs.Prelude.{◌≡◌, ◌≤◌, ◌<◌, ◌+◌, ◌/◌, ◌^◌, ℕ, Bool, true, Contains, List, [], ◌∷◌, length, max}
+use Rattle.eof_laws.specs.block_io.Overwrites.{blocks_reached}
 use Rattle.file_table.specs.layout_model.Places.{Geometry}
 use Rattle.layout_model.specs.declared.lines.Draft.{Draft}
 use Rattle.layout_model.specs.declared.lines.Kind.TheVariants.{File}
@@ -48,7 +49,7 @@ draft_in v files target len run =
       size = max target.size (target.start + len);
     }
 
--- The write has at least one byte and ends within the longest file; its run is one that is out, of as many blocks as it stages,
+-- The write has at least one byte and ends within the longest file; its run is one that is out, of as many blocks as it reaches,
 -- and of the generation that its staging file has.
 pub record HasRun (v : Volume) (staging : Staged) (target : Target) (len : ℕ) (run : StageRun) : Type 0 where
   pub some : 1 ≤ len
@@ -56,7 +57,7 @@ pub record HasRun (v : Volume) (staging : Staged) (target : Target) (len : ℕ) 
   pub fits : target.start + len ≤ LONGEST_FILE
   pub size : target.size ≤ LONGEST_FILE
   pub out : Contains staging.out run
-  pub count_is : run.count ≡ staged_count Mode.Strict target.size target.start len
+  pub count_is : run.count ≡ blocks_reached target.start len
   pub generation : run.generation ≡ (inode v run.staging).generation
 
 -- The entry is one that a line can hold, it is live, and its order is the next one of its file.

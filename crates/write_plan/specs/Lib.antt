@@ -4,7 +4,9 @@ pub mod AsksLaws
 pub mod Drafts
 pub mod Numbers
 pub mod Words
+pub mod Parts
 pub mod FirstWritesLaws
+pub mod Plans
 pub use Rattle.posix_tables.specs.block_counts
 pub use Rattle.open_files.specs.commute_laws
 pub use Rattle.open_files.specs.crash_spec

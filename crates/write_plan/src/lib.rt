@@ -5,10 +5,11 @@
 //!
 //! - `rows`: The rows of `write`, `pwrite` and `truncate`, from numbers that are kept beside
 //!   K-Split.
-//! - `asks`: What a write in strict mode asks for, by numbers, and the offset behind it.
-//! - `drafts`: The entry of a logged write in strict mode.
+//! - `asks`: What a write asks for by its mode and numbers, and the offset behind it.
+//! - `drafts`: The entry of a logged write, or of the part of it that is staged.
+//! - `parts`: The part of a write that is staged.
 //! - `words`: What the blocks of a logged write are to hold.
-//! - `first_writes`: Room for the first write of a lap.
+//! - `first_writes`: Room for the first write of a lap, and for the holes of its file.
 //!
 //! Stands on `block_counts`, `posix_types`, `posix_tables`, `open_files`, `file_table`,
 //! `layout_model`, `file_overlay`, `live_model`, `relink_laws` and `eof_laws`.
@@ -18,6 +19,7 @@ mod asks;
 mod drafts;
 mod first_writes;
 mod laws;
+mod parts;
 mod rows;
 mod words;
 
@@ -28,6 +30,7 @@ pub use drafts::{
     Collection, Commit, Job, KSplit, draft_of, entries_are_the_next_ones,
     kept_numbers_are_those_of_the_state, read_bytes, staged_words,
 };
-pub use first_writes::the_first_write_finds_its_blocks;
+pub use first_writes::{the_first_holes_find_their_blocks, the_first_write_finds_its_blocks};
+pub use parts::staged_blocks_are_those_of_the_part;
 pub use rows::{room_by, the_rows_are_those_of_the_calls, truncate_row, write_row};
 pub use words::{words_of_write, words_spell_the_file};

@@ -4,9 +4,9 @@ ghost use Rattle.block_counts.specs.declared.TheConstants.{LONGEST_FILE, LONGEST
 ghost use Rattle.write_plan.specs.pm_model.Powers.{is_on, Steps};
 ghost use Rattle.write_plan.specs.file_table.Files.{size_in, spare_in};
 ghost use Rattle.write_begin.specs.Begins.{IsPaid};
-ghost use Rattle.write_begin.specs.Goes.{FitsTarget, Goes, HasRoom, IsBareAtRest, IsGone, IsJobBegun, KeepsMaps};
+ghost use Rattle.write_begin.specs.Goes.{FitsTarget, Goes, GoesWhole, HasRoom, IsBareAtRest, IsGone, IsJobBegun, KeepsMaps, reached_run};
 ghost use Rattle.data_route.specs.Writes.{plan_of};
-ghost use Rattle.write_plan.specs.Drafts.{staged_count};
+ghost use Rattle.write_plan.specs.eof_laws.block_io.Overwrites.{blocks_reached};
 ghost use Rattle.write_begin.specs.Stages.{Ready};
 
 use crate::begins::beginning::WriteBegun;
@@ -25,7 +25,7 @@ fn count_of(plan: WritePlan, target: Target, len: usize) -> u32
     requires some { 1 ≤ len }
     requires most { len ≤ LONGEST_WRITE }
     requires fits { target.start + len ≤ LONGEST_FILE }
-    ensures count { result ≡ staged_count Mode.Strict target.size target.start len }
+    ensures count { result ≡ blocks_reached target.start len }
     ensures least { 1 ≤ result }
     ensures most { result ≤ 33 }
 {
@@ -82,7 +82,7 @@ fn begin_reserved(
     requires strict { mode ≡ Mode.Strict }
     requires goes { Goes k.old staging.old files.now who target bytes.now }
     requires target { FitsTarget files.now target (length bytes.now) }
-    requires room { HasRoom k.old.volume files.now target (length bytes.now) }
+    requires room { HasRoom mode k.old.volume files.now target (length bytes.now) }
     requires bare { IsBareAtRest staging.old }
     requires spare { 3 ≤ spare_in files.now target.ino }
     ensures steps { Steps (2 ^ 16) power.old power.new }
@@ -90,7 +90,7 @@ fn begin_reserved(
     ensures keeps { is_on power.new ≡ true
         → KeepsMaps k.old.volume k.new.volume files.now files.now }
     ensures gone { IsGone k.old k.new staging.old staging.new files.now files.now who target
-        bytes.now result }
+        bytes.now (reached_run target (length bytes.now)) result }
 {
     laws::a_run_is_reserved_in_flight();
     laws::the_first_write_finds_its_blocks();
@@ -133,16 +133,16 @@ pub(crate) fn begin_target(
 ) -> Result<WriteBegun, AllocError>
     requires on { is_on power.old ≡ true }
     requires strict { mode ≡ Mode.Strict }
-    requires goes { Goes k.old staging.old files.old who target bytes.now }
+    requires goes { GoesWhole k.old staging.old files.old who target bytes.now }
     requires target { FitsTarget files.old target (length bytes.now) }
-    requires room { HasRoom k.old.volume files.old target (length bytes.now) }
+    requires room { HasRoom mode k.old.volume files.old target (length bytes.now) }
     requires bare { IsBareAtRest staging.old }
     ensures steps { Steps (2 ^ 16) power.old power.new }
     ensures paid { IsPaid power.new result }
     ensures keeps { is_on power.new ≡ true
         → KeepsMaps k.old.volume k.new.volume files.old files.new }
     ensures gone { IsGone k.old k.new staging.old staging.new files.old files.new who target
-        bytes.now result }
+        bytes.now (plan_of mode target.size target.start (length bytes.now)).staged result }
 {
     match files.reserve(target.ino) {
         Err(error) => Err(error),

@@ -4,6 +4,8 @@ ghost use Rattle.write_jobs.specs.Loans.{ComeBack};
 ghost use Rattle.write_plan.specs.file_table.Files.{runs_in, ChangesFile};
 ghost use Rattle.live_model.specs.Overlays.{run_of};
 ghost use Rattle.write_end.specs.Ends.{CanFinish, HasJob, HasWrite, LeavesFinished};
+ghost use Rattle.write_end.specs.Landing.{HasLanded};
+ghost use Rattle.posix_types.specs.declared.call.Mode.{Mode};
 
 use file_overlay::Run;
 use layout_model::Draft;
@@ -27,7 +29,8 @@ fn run_of(draft: &Draft) -> Run
 /// A write finishes whose entry stands in the slot of the log: its blocks come back with its words, the
 /// offset of its handle moves, its run is laid over the file, which has its size then, and the pair of
 /// slot and entry is one claim more. The job is one of this World, out, and of this call; there is room for
-/// a claim. It takes no memory and no step.
+/// a claim. In strict mode its call has acted then; in sync mode but for its bytes before the first block
+/// of the entry, which are written in place afterwards. It takes no memory and no step.
 pub fn finish_write(
     k: &mut KSplit,
     tables: &mut OpenFiles,
@@ -45,8 +48,10 @@ pub fn finish_write(
     ensures capacity { vec_capacity claims.new ≡ vec_capacity claims.old }
     ensures lays { ChangesFile job.draft.ino (runs_in files.old job.draft.ino ++ run_of job.draft ∷ [])
         job.draft.size files.old files.new }
+    ensures lands { (has : HasJob k.old job) → HasWrite k.old job tables.old.tables files.old call.now has
+        → HasLanded k.old job has slot k.new tables.new.tables files.new }
     ensures leaves { (has : HasJob k.old job) → HasWrite k.old job tables.old.tables files.old call.now has
-        → LeavesFinished k.old job has slot k.new tables.new.tables files.new }
+        → has.s.mode ≡ Mode.Strict → LeavesFinished k.old job has slot k.new tables.new.tables files.new }
 {
     let draft = *job.draft();
     move_by(tables, files, job.who(), call);

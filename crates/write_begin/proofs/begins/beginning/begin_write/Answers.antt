@@ -1,12 +1,13 @@
 use Rattle.std.proofs.Common.{◌≡◌, ◌∙◌, true, length, ap, refl, subst, sym}
 use Rattle.posix_types.specs.declared.call.Mode.{Mode}
+use Rattle.data_route.specs.Writes.{plan_of}
 use Rattle.write_plan.specs.layout_model.Places.{data_blocks}
 use Rattle.write_plan.specs.declared.asks.asking.Asked.{Asked}
 use Rattle.write_plan.specs.Asks.{IsAsked}
 use Rattle.write_begin.specs.Stages.{with_parts}
-use Rattle.write_begin.specs.Goes.{FitsTarget, Goes, HasRoom, IsGone}
+use Rattle.write_begin.specs.Goes.{FitsTarget, GoesWhole, HasRoom, IsGone}
 use Rattle.write_begin.proofs.BeginsAsked.{has_room}
-use Rattle.write_begin.proofs.Begun.{answered_by, begun_by, ends_beside, goes_on}
+use Rattle.write_begin.proofs.Begun.{answered_by, begun_by, ends_beside, goes_whole}
 use Rattle.write_begin.proofs.begins.beginning.begin_write.Goals as goal
 
 pub ask-requires : goal.ask-requires
@@ -42,8 +43,8 @@ begin_target-requires-clause-goes c =
     subst (λ (mode : Mode). IsAsked mode c.args.tables.now.tables c.args.files.now c.args.who c.args.handle c.args.offset (length c.args.bytes.now) (data_blocks c.args.k.now.volume.geometry) c.args.needs (Asked.Goes c.in-Goes.target)) c.requires.strict
     (subst (λ n. IsAsked c.args.mode c.args.tables.now.tables c.args.files.now c.args.who c.args.handle c.args.offset (length c.args.bytes.now) n c.args.needs (Asked.Goes c.in-Goes.target)) blocks
     (subst (λ m. IsAsked c.args.mode c.args.tables.now.tables c.args.files.now c.args.who c.args.handle c.args.offset m c.data_blocks-blocks.result c.args.needs (Asked.Goes c.in-Goes.target)) len c.in-Goes.ensures)) in
-    subst (Goes c.args.k.now c.args.staging.now c.args.files.now c.args.who c.in-Goes.target) (sym (c.as_slice-new.ensures.value ∙ c.bytes.view_is))
-    (goes_on c.kept_numbers_are_those_of_the_state.ensures.sizes c.kept_numbers_are_those_of_the_state.ensures.room c.numbers_are_those_of_the_state.ensures.rows c.numbers_are_those_of_the_state.ensures.starts c.numbers_are_those_of_the_state.ensures.needs c.args.k.now c.args.tables.now.tables c.args.staging.now c.args.files.now c.args.who c.args.handle c.args.offset c.args.bytes.now c.args.needs asked.0 c.in-Goes.target asked.2 asked.1 c.requires.found)
+    subst (GoesWhole c.args.k.now c.args.staging.now c.args.files.now c.args.who c.in-Goes.target) (sym (c.as_slice-new.ensures.value ∙ c.bytes.view_is))
+    (goes_whole c.kept_numbers_are_those_of_the_state.ensures.sizes c.kept_numbers_are_those_of_the_state.ensures.room c.numbers_are_those_of_the_state.ensures.rows c.numbers_are_those_of_the_state.ensures.starts c.numbers_are_those_of_the_state.ensures.needs c.args.k.now c.args.tables.now.tables c.args.staging.now c.args.files.now c.args.who c.args.handle c.args.offset c.args.bytes.now c.args.needs asked.0 c.in-Goes.target asked.2 asked.1 c.requires.found)
 
 pub begin_target-requires-clause-target : goal.begin_target-requires-clause-target
 begin_target-requires-clause-target c =
@@ -64,8 +65,9 @@ begin_target-requires-clause-room c =
     subst (λ (mode : Mode). IsAsked mode c.args.tables.now.tables c.args.files.now c.args.who c.args.handle c.args.offset (length c.args.bytes.now) (data_blocks c.args.k.now.volume.geometry) c.args.needs (Asked.Goes c.in-Goes.target)) c.requires.strict
     (subst (λ n. IsAsked c.args.mode c.args.tables.now.tables c.args.files.now c.args.who c.args.handle c.args.offset (length c.args.bytes.now) n c.args.needs (Asked.Goes c.in-Goes.target)) blocks
     (subst (λ m. IsAsked c.args.mode c.args.tables.now.tables c.args.files.now c.args.who c.args.handle c.args.offset m c.data_blocks-blocks.result c.args.needs (Asked.Goes c.in-Goes.target)) len c.in-Goes.ensures)) in
-    subst (λ xs. HasRoom c.args.k.now.volume c.args.files.now c.in-Goes.target (length xs)) (sym (c.as_slice-new.ensures.value ∙ c.bytes.view_is))
-    (has_room c.args.tables.now.tables c.args.files.now c.args.who c.args.handle c.args.offset (length c.args.bytes.now) c.in-Goes.target asked.2 c.args.k.now.volume c.args.needs c.requires.ends asked.1)
+    subst (λ xs. HasRoom c.args.mode c.args.k.now.volume c.args.files.now c.in-Goes.target (length xs)) (sym (c.as_slice-new.ensures.value ∙ c.bytes.view_is))
+    (subst (λ (m : Mode). HasRoom m c.args.k.now.volume c.args.files.now c.in-Goes.target (length c.args.bytes.now)) (sym c.requires.strict)
+    (has_room c.args.tables.now.tables c.args.files.now c.args.who c.args.handle c.args.offset (length c.args.bytes.now) c.in-Goes.target asked.2 c.args.k.now.volume c.args.needs c.requires.ends asked.1))
 
 pub returns-in-Goes-clause-begun : goal.returns-in-Goes-clause-begun
 returns-in-Goes-clause-begun c =
@@ -76,5 +78,6 @@ returns-in-Goes-clause-begun c =
     (subst (λ n. IsAsked c.args.mode c.args.tables.now.tables c.args.files.now c.args.who c.args.handle c.args.offset (length c.args.bytes.now) n c.args.needs (Asked.Goes c.in-Goes.target)) blocks
     (subst (λ m. IsAsked c.args.mode c.args.tables.now.tables c.args.files.now c.args.who c.args.handle c.args.offset m c.data_blocks-blocks.result c.args.needs (Asked.Goes c.in-Goes.target)) len c.in-Goes.ensures)) in
     begun_by c.kept_numbers_are_those_of_the_state.ensures.sizes c.kept_numbers_are_those_of_the_state.ensures.room c.numbers_are_those_of_the_state.ensures.rows c.numbers_are_those_of_the_state.ensures.starts c.numbers_are_those_of_the_state.ensures.needs c.args.k.now c.args.tables.now.tables c.args.staging.now c.args.files.now c.args.who c.args.handle c.args.offset c.args.bytes.now c.args.needs asked.0 c.in-Goes.target asked.2 asked.1 c.begin_target.new.k c.begin_target.new.staging c.begin_target.new.files c.begin_target.result
-    (subst (λ xs. IsGone c.args.k.now c.begin_target.new.k c.args.staging.now c.begin_target.new.staging c.args.files.now c.begin_target.new.files c.args.who c.in-Goes.target xs c.begin_target.result) (c.as_slice-new.ensures.value ∙ c.bytes.view_is)
-    c.begin_target.ensures.gone)
+    (subst (λ (m : Mode). IsGone c.args.k.now c.begin_target.new.k c.args.staging.now c.begin_target.new.staging c.args.files.now c.begin_target.new.files c.args.who c.in-Goes.target c.args.bytes.now (plan_of m c.in-Goes.target.size c.in-Goes.target.start (length c.args.bytes.now)).staged c.begin_target.result) c.requires.strict
+    (subst (λ xs. IsGone c.args.k.now c.begin_target.new.k c.args.staging.now c.begin_target.new.staging c.args.files.now c.begin_target.new.files c.args.who c.in-Goes.target xs (plan_of c.args.mode c.in-Goes.target.size c.in-Goes.target.start (length xs)).staged c.begin_target.result) (c.as_slice-new.ensures.value ∙ c.bytes.view_is)
+    c.begin_target.ensures.gone))

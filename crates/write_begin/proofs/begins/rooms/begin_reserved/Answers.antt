@@ -5,7 +5,7 @@ use Rattle.data_route.specs.Writes.{plan_of}
 use Rattle.write_plan.specs.file_table.Files.{size_in}
 use Rattle.write_plan.specs.image_model.Volume.{Volume}
 use Rattle.write_plan.specs.k_split_model.View.{View}
-use Rattle.write_begin.specs.Goes.{KeepsMaps, LacksRun}
+use Rattle.write_begin.specs.Goes.{HasRoom, KeepsMaps, LacksRun, reached_run}
 use Rattle.write_begin.proofs.Spared.{line_there}
 use Rattle.write_begin.proofs.Cleared.{ends_kept, gone_ok, same_maps, same_volume}
 use Rattle.write_begin.proofs.Plans.{strict_cleans}
@@ -77,7 +77,7 @@ size-size-requires c = line_there c.args.k.now c.args.staging.now c.args.files.n
 pub unreachable-requires : goal.unreachable-requires
 unreachable-requires c =
     let answer = rw c.in-Err-NoRoom.field-0-is at c.in-Err-NoRoom.ensures.answer in
-    first_fits c.args.k.now c.args.staging.now c.args.files.now c.args.who c.args.target c.args.bytes.now c.count_of-count.result c.in-Err-NoRoom.need c.in-Err-NoRoom.room c.the_first_write_finds_its_blocks.ensures c.requires.goes c.requires.room
+    first_fits c.args.k.now c.args.staging.now c.args.files.now c.args.who c.args.target c.args.bytes.now c.count_of-count.result c.in-Err-NoRoom.need c.in-Err-NoRoom.room c.the_first_write_finds_its_blocks.ensures c.requires.goes (subst (λ (m : Mode). HasRoom m c.args.k.now.volume c.args.files.now c.args.target (length c.args.bytes.now)) c.requires.strict c.requires.room)
     c.requires.target.some c.count_of-count.ensures.count (sym answer.1.staging ∙ c.if-is_fresh.ensures.0 refl) answer.0
 
 pub returns-else-is_fresh-clause-keeps : goal.returns-else-is_fresh-clause-keeps
@@ -88,7 +88,7 @@ returns-else-is_fresh-clause-keeps c = λ on.
 pub returns-else-is_fresh-clause-gone : goal.returns-else-is_fresh-clause-gone
 returns-else-is_fresh-clause-gone c =
     let answer = rw c.in-Err-NoRoom.field-0-is at c.in-Err-NoRoom.ensures.answer in
-    subst (λ (n : ℕ). LacksRun c.args.k.now c.reserve.new.k c.args.staging.now c.reserve.new.self c.args.files.now c.args.files.now c.args.who c.args.target c.args.bytes.now n c.from-in-Err-NoRoom.result) (sym (c.from.ensures ∙ c.in-Err-NoRoom.need-is))
-    (subst (λ (m : ℕ). LacksRun c.args.k.now c.reserve.new.k c.args.staging.now c.reserve.new.self c.args.files.now c.args.files.now c.args.who c.args.target c.args.bytes.now c.in-Err-NoRoom.need m) (sym (c.from-in-Err-NoRoom.ensures ∙ c.in-Err-NoRoom.room-is))
+    subst (λ (n : ℕ). LacksRun c.args.k.now c.reserve.new.k c.args.staging.now c.reserve.new.self c.args.files.now c.args.files.now c.args.who c.args.target c.args.bytes.now (reached_run c.args.target (length c.args.bytes.now)) n c.from-in-Err-NoRoom.result) (sym (c.from.ensures ∙ c.in-Err-NoRoom.need-is))
+    (subst (λ (m : ℕ). LacksRun c.args.k.now c.reserve.new.k c.args.staging.now c.reserve.new.self c.args.files.now c.args.files.now c.args.who c.args.target c.args.bytes.now (reached_run c.args.target (length c.args.bytes.now)) c.in-Err-NoRoom.need m) (sym (c.from-in-Err-NoRoom.ensures ∙ c.in-Err-NoRoom.room-is))
     (lacks_run c.args.k.now c.reserve.new.k c.args.staging.now c.reserve.new.self c.args.files.now c.args.who c.args.target c.args.bytes.now c.count_of-count.result c.in-Err-NoRoom.need c.in-Err-NoRoom.room c.count_of-count.ensures.count
     (late_of c.args.staging.now c.reserve.new.self answer.1.staging c.requires.bare (λ fresh. (let never : false ≡ true = c.if-is_fresh.ensures.1 fresh in cc))) answer.0 answer.1))

@@ -11,8 +11,9 @@ use Rattle.posix_types.specs.declared.call.Who.{Who}
 use Rattle.write_jobs.specs.Jobs.{loan_at}
 use Rattle.write_jobs.specs.Loans.{AreApart, ComeBack}
 use Rattle.write_plan.specs.Asks.{moved_by}
-use Rattle.write_end.proofs.Asked.{finish_leaves, may_lay, may_move_by}
+use Rattle.write_end.proofs.Asked.{finish_lands, may_lay, may_move_by}
 use Rattle.write_end.proofs.Ending.{loans_apart, loans_out}
+use Rattle.write_end.proofs.Landed.{landed_is_finished}
 use Rattle.write_end.proofs.ends.finishing.finish_write.Goals as goal
 
 pub move_by-requires : goal.move_by-requires
@@ -56,12 +57,16 @@ lay-requires-clause-small c =
     let may = may_lay c.args.k.now c.args.job c.requires.job.0 c.args.files.now c.requires.job.1.files_are in
     subst (λ (d : Draft). d.size ≤ LONGEST_FILE) (sym c.draft.ensures.draft) may.small
 
-pub returns-clause-leaves : goal.returns-clause-leaves
-returns-clause-leaves c = λ has write.
-    finish_leaves c.args.k.now c.settle_blocks.new.k c.args.job c.args.tables.now.tables c.move_by.new.tables.tables c.args.files.now c.lay.new.self c.args.call.now c.args.slot
+pub returns-clause-lands : goal.returns-clause-lands
+returns-clause-lands c = λ has write.
+    finish_lands c.args.k.now c.settle_blocks.new.k c.args.job c.args.tables.now.tables c.move_by.new.tables.tables c.args.files.now c.lay.new.self c.args.call.now c.args.slot
     c.into_loans.ensures.holds (subst (λ (loans : List Part). ComeBack loans c.args.k.now.cells c.settle_blocks.new.k.cells) c.into_loans.ensures.loans c.settle_blocks.ensures.back)
     c.settle_blocks.ensures.same (c.is_lost-lost.ensures.order (ap (λ (w : View). w.lost) c.settle_blocks.ensures.same ∙ has.stands.on))
     (c.move_by.ensures ∙ ap (λ (w : Who). moved_by c.args.tables.now.tables c.args.files.now w c.args.call.now) c.who.ensures)
     (subst (λ (d : Draft). ChangesFile d.ino (runs_in c.args.files.now d.ino ++ run_of d ∷ []) d.size c.args.files.now c.lay.new.self) c.draft.ensures.draft
     (subst (λ (r : Run). ChangesFile c.draft.result.now.ino (runs_in c.args.files.now c.draft.result.now.ino ++ r ∷ []) c.draft.result.now.size c.args.files.now c.lay.new.self) c.run_of.ensures c.lay.ensures))
     has write
+
+pub returns-clause-leaves : goal.returns-clause-leaves
+returns-clause-leaves c = λ has write strict.
+    landed_is_finished c.args.k.now c.settle_blocks.new.k c.args.job has c.args.slot c.move_by.new.tables.tables c.lay.new.self strict (returns-clause-lands c has write)

@@ -20,7 +20,7 @@ use Rattle.write_begin.specs.posix_tables.Open.{Tables}
 use Rattle.write_begin.specs.posix_tables.Outcomes.{first}
 use Rattle.write_begin.specs.posix_laws.Views.{need_of}
 use Rattle.write_begin.specs.posix_spec.FileRows.{write_rows}
-use Rattle.write_begin.specs.posix_spec.Put.{Put, put_by}
+use Rattle.write_begin.specs.posix_spec.Put.{put_by}
 use Rattle.write_begin.specs.posix_spec.Run.{after_call}
 use Rattle.write_begin.specs.posix_spec.State.{room, State}
 use Rattle.write_begin.specs.posix_spec.Step.{step, Stepped}
@@ -42,8 +42,8 @@ use Rattle.world_view_laws.proofs.write_end_proofs.Homes.{has_blocks_out}
 use Rattle.world_view_laws.proofs.Holes.{no_holes, none_filled}
 use Rattle.world_view_laws.specs.Begins.{BeginsJob, EndsRound, IsOfPlan, item_of, LacksBeside, LacksStaging, LosesCall, Returns}
 use Rattle.world_view_laws.specs.eof_laws.Ends.{FilesEnd}
+use Rattle.write_begin.specs.write_plan.Plans.{staged_run}
 use Rattle.world_view_laws.specs.Views.{Disk, disk_of, IsGoing, IsWorldOver, kept_of, state_of, WorldView}
-use Rattle.write_begin.proofs.BeginsAsked.{puts_of}
 use Rattle.write_begin.proofs.Begun.{need_fits}
 use Rattle.write_begin.specs.Begins as writing
 use Rattle.write_begin.specs.Begins.{BeginsWrite, Found, IsAnsweredBy, LosesWrite}
@@ -51,7 +51,7 @@ use Rattle.write_begin.specs.Goes.{KeepsMaps}
 use Rattle.write_begin.specs.Needs.{JobsNeed, need_by}
 use Rattle.write_begin.specs.write_plan.AsksLaws.{call_of, start_of}
 use Rattle.write_begin.specs.posix_laws.RowLaws.{Accepts-from_rows}
-use Rattle.call_laws.proofs.Rows.{accepted_logged, is_its_need, its_need, lacks_in, lacks_staging, no_publish, refused_step, refused_unlogged}
+use Rattle.call_laws.proofs.Rows.{accepted_logged, is_its_need, its_need, lacks_in, lacks_staging, no_publish, run_is, refused_step, refused_unlogged}
 use Rattle.call_laws.proofs.Jobs.{drafts_differ, needs_are, stands_later}
 use Rattle.call_laws.specs.Calls.{AtCall}
 use Rattle.call_laws.proofs.Running.{of_open_file}
@@ -191,8 +191,8 @@ module _ (k : View) (t : Tables) (staging : Staged) (files : Files) (w : WorldVi
             began k t staging files w one.world one.begins.awake one.out who (call_of h at x) one.begins.next one.up one.none one.begins.going pending_of refl refl l staged laid keeps.base ends_now begun.ends
             one_more few (begun.stands found_at)
 
-        plan_is : first (write_rows (state_of w) who h (start_of (state_of w) who h at) x) ≡ None → IsOfPlan (put_by (state_of w) who (call_of h at x)) job.draft
-        plan_is none = subst (λ (o : Option Put). IsOfPlan o job.draft) (sym (puts_of (state_of w) who h at x none)) (begun.plan found_at)
+        plan_is : first (write_rows (state_of w) who h (start_of (state_of w) who h at) x) ≡ None → IsOfPlan (staged_run (state_of w) (put_by (state_of w) who (call_of h at x))) job.draft
+        plan_is none = subst (λ (o : Option (ℕ × ℕ)). IsOfPlan o job.draft) (sym (run_is w who h at x k t staging files none one.world.disk_is at_call.geometry strict)) (begun.plan found_at)
 
         last_there : (qs : List JobOut) → In pending_of (qs ++ pending_of ∷ [])
         last_there [] = inl refl
@@ -206,10 +206,10 @@ module _ (k : View) (t : Tables) (staging : Staged) (files : Files) (w : WorldVi
           enough = λ need left lacks. begun.enough found_at need left (beside_in need left lacks);
           holes = no_holes w one.world.mode who (call_of h at x);
           middle = w.disk;
-          filled = none_filled w;
+          filled = none_filled w one.world.mode who (call_of h at x);
           run = λ need left lacks.
               begun.run found_at need left
-              (lacks_in w who h at x k t staging files (begun.accepted found_at) one.world.disk_is at_call.geometry need left lacks);
+              (lacks_in w who h at x k t staging files (begun.accepted found_at) one.world.disk_is at_call.geometry strict need left lacks);
           pending = pending_of;
           who_is = refl;
           call_is = refl;
@@ -245,7 +245,7 @@ module _ (k : View) (t : Tables) (staging : Staged) (files : Files) (w : WorldVi
         cause = elim (over.cause found_at) [
           | inl is ↦ inl (beside_as (over.accepted found_at) needed left is)
           | inr is ↦ inr
-              (lacks_staging w who h at x k t staging files (over.accepted found_at) one.world.disk_is at_call.geometry needed left
+              (lacks_staging w who h at x k t staging files (over.accepted found_at) one.world.disk_is at_call.geometry strict needed left
               (λ n m lacks. is.beside n m (beside_in n m lacks)) is.lacks)
         ]
 

@@ -20,7 +20,7 @@ use Rattle.world_view_laws.proofs.Beginning.{standing}
 use Rattle.world_view_laws.proofs.Ending.{no_both}
 use Rattle.world_view_laws.specs.declared.views.over.Over.{Over}
 use Rattle.world_view_laws.proofs.write_end_proofs.Homes.{has_blocks_out}
-use Rattle.world_view_laws.proofs.Holes.{none_filled}
+use Rattle.world_view_laws.proofs.Holes.{no_holes, none_filled}
 use Rattle.world_view_laws.specs.Begins.{EndsRound, HasFilled, LacksBeside, LacksStaging, OthersStay, with_disk}
 use Rattle.world_view_laws.specs.eof_laws.Ends.{FilesEnd}
 use Rattle.world_view_laws.specs.Views.{Disk, disk_of, IsGoing, IsWorldOver, kept_of, state_of, WorldView}
@@ -159,11 +159,14 @@ module _ (k : View) (t : Tables) (staging : Staged) (files : Files) (w : WorldVi
         begins = one.begins;
         cause = elim cause [
           | inl beside ↦ inl beside
-          | inr lacks ↦ inr (inr (subst (λ (d : Disk). LacksStaging (with_disk w d) who call needed left) (sym nothing) lacks))
+          | inr lacks ↦ inr (inr (record {
+            whole = no_holes w one.world.mode who call;
+            holes = subst (HasFilled w who call) (sym nothing) (none_filled w one.world.mode who call);
+            staging = subst (λ (d : Disk). LacksStaging (with_disk w d) who call needed left) (sym nothing) lacks;
+          }))
         ];
         late = late;
         new_is = refl;
-        filled = subst (HasFilled w) (sym nothing) (none_filled w);
         nothing = λ refused. nothing;
         stay = others_still (Some (Over.Space needed left)) (w.acts + 1);
         on = on;

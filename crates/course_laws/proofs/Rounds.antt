@@ -32,6 +32,7 @@ use Rattle.world_view_laws.specs.write_end.Ends.{begun_by}
 use Rattle.world_view_laws.specs.write_jobs.Jobs.{FilledView}
 use Rattle.world_view_laws.specs.Begins.{IsFilledOut, IsNeed, IsStagingNeed, item_of, LacksSpace, with_disk}
 use Rattle.world_view_laws.specs.Holes.{file_of, holes_at}
+use Rattle.world_view_laws.specs.write_plan.Plans.{placed_at, staged_run}
 use Rattle.world_view_laws.specs.Jobs.{Finishes, GivesUp, over_by}
 use Rattle.world_view_laws.specs.declared.views.over.Over.{Over}
 use Rattle.world_view_laws.specs.Views.{Disk, state_of, WorldView}
@@ -283,11 +284,11 @@ module _ (who : Who) (w : WorldView) where
   beside_kind (Call.Truncate h size) need left is lacks = inr (is.0, grows (length (content (state_of w) who h)) size need is.1 (omega (arith, lacks)))
   beside_kind call need left is lacks = inl (logged_puts call is.0)
 
-  staging_kind : (v : WorldView) (call : Call) (need : ℕ) (o : Option Put) → put_by (state_of w) who call ≡ o → IsStagingNeed v o need → is_some (put_by (state_of w) who call) ≡ true
+  staging_kind : (v : WorldView) (call : Call) (need : ℕ) (o : Option Put) → put_by (state_of w) who call ≡ o → IsStagingNeed v (staged_run (state_of w) o) need → is_some (put_by (state_of w) who call) ≡ true
   staging_kind v call need None at is = absurd is
   staging_kind v call need (Some put) at is = ap is_some at
 
-  holes_kind : (call : Call) (ino : Option ℕ) (o : Option Put) → put_by (state_of w) who call ≡ o → 1 ≤ holes_at w ino o → is_some (put_by (state_of w) who call) ≡ true
+  holes_kind : (call : Call) (ino : Option ℕ) (o : Option Put) → put_by (state_of w) who call ≡ o → 1 ≤ holes_at w ino (placed_at (state_of w) o) → is_some (put_by (state_of w) who call) ≡ true
   holes_kind call ino (Some put) at some = ap is_some at
   holes_kind call (Some ino) None at some = absurd (omega (arith, some))
   holes_kind call None None at some = absurd (omega (arith, some))
@@ -295,7 +296,7 @@ module _ (who : Who) (w : WorldView) where
   pub space_kind : (filled : Disk) (call : Call) (need left : ℕ) → LacksSpace w filled who call need left → MayLackSpace (state_of w) who call
   space_kind filled call need left (inl beside) = beside_kind call need left beside.need_is beside.lacks
   space_kind filled call need left (inr (inl holes)) = inl (holes_kind call (file_of w who call) (put_by (state_of w) who call) refl holes.some)
-  space_kind filled call need left (inr (inr staging)) = inl (staging_kind (with_disk w filled) call need (put_by (state_of w) who call) refl staging.need_is)
+  space_kind filled call need left (inr (inr run)) = inl (staging_kind (with_disk w filled) call need (put_by (state_of w) who call) refl run.staging.need_is)
 
 pub lacks_space_beside : LacksSpaceBeside
 lacks_space_beside who w new out after need left g m can is course = (

@@ -22,6 +22,7 @@ use Rattle.world_view_laws.specs.write_jobs.Jobs.{JobView}
 use Rattle.world_view_laws.specs.declared.views.over.Over.{Over}
 use Rattle.world_view_laws.specs.Begins.{BeginsJob, EndsRound, IsJobOut, IsNeed, IsStagingNeed, item_of, LacksSpace, LosesCall, OthersStay, Returns, with_disk}
 use Rattle.world_view_laws.proofs.Holes.{holes_move}
+use Rattle.world_view_laws.specs.write_plan.Plans.{staged_run}
 use Rattle.world_view_laws.specs.Views.{calls_out, Disk, next_of, state_of, WorldView}
 use Rattle.run_laws.proofs.Logs.{SameLap}
 use Rattle.run_laws.proofs.Names.{logged_moves, names_later, names_more, put_moves}
@@ -238,14 +239,14 @@ module _ (who : Who) (w : WorldView) (out : OutView) (can : CanBegin who w out) 
   need_moves (Call.Truncate h size) need is = refl
   need_moves call need is = logged_moves (state_of w) who call is.0
 
-  staging_moves : (v : WorldView) (call : Call) (need : ℕ) (o : Option Put) → put_by (state_of w) who call ≡ o → IsStagingNeed v o need → moves_data call ≡ true
+  staging_moves : (v : WorldView) (call : Call) (need : ℕ) (o : Option Put) → put_by (state_of w) who call ≡ o → IsStagingNeed v (staged_run (state_of w) o) need → moves_data call ≡ true
   staging_moves v call need None at is = absurd is
   staging_moves v call need (Some put) at is = put_moves (state_of w) who call put at
 
   pub lacks_moves : (filled : Disk) (call : Call) (need room : ℕ) → LacksSpace w filled who call need room → moves_data call ≡ true
   lacks_moves filled call need room (inl beside) = need_moves call need beside.need_is
   lacks_moves filled call need room (inr (inl holes)) = holes_move w who call holes.some
-  lacks_moves filled call need room (inr (inr staging)) = staging_moves (with_disk w filled) call need (put_by (state_of w) who call) refl staging.need_is
+  lacks_moves filled call need room (inr (inr run)) = staging_moves (with_disk w filled) call need (put_by (state_of w) who call) refl run.staging.need_is
 
   module _ (new : WorldView) (before after : Supply) (need room : ℕ) (steps : Steps (most_of (next_of w who)) before after) (is : EndsRound who w new after need room) where
     abbrev z : WorldView

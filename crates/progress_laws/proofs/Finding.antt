@@ -1,5 +1,5 @@
 -- The first call of a round finds room.
-use Rattle.std.specs.Prelude.{◌≡◌, ◌≢◌, ◌≤◌, ◌-◌, ℕ, true, List, [], length, Option, Some, None, sum_by, refl}
+use Rattle.std.specs.Prelude.{◌≡◌, ◌≢◌, ◌≤◌, ◌-◌, ◌/◌, ℕ, true, List, [], length, Option, Some, None, sum_by, refl}
 use Rattle.std.proofs.Common.{arith, ap, ◌∙◌, sym, subst, inl, inr, suc, zero}
 use Rattle.world_parts.specs.world_view_laws.posix_types.declared.call.Mode.{Mode}
 use Rattle.call_laws.proofs.Putting.{found_at}
@@ -13,6 +13,7 @@ use Rattle.call_laws.specs.write_begin.write_plan.Drafts.{staged_count}
 use Rattle.call_laws.specs.write_begin.write_plan.Numbers.{RoomIsKept, StandsAsKept}
 use Rattle.write_begin.proofs.BeginsAsked.{need_is, room_is, start_is}
 use Rattle.write_begin.proofs.Begun.{need_fits}
+use Rattle.write_begin.proofs.Plans.{strict_staged}
 use Rattle.write_plan.specs.FirstWritesLaws.{FirstWriteFits}
 use Rattle.world_parts.specs.file_table.Files.{Files, size_in}
 use Rattle.world_parts.specs.k_split_model.View.{View}
@@ -31,6 +32,7 @@ use Rattle.world_parts.specs.world_view_laws.in_flight.staging_files.Keeps.{Stag
 use Rattle.world_parts.specs.world_view_laws.in_flight.live_model.Standing.{JobOut}
 use Rattle.world_parts.proofs.world_view_laws_proofs.Holes.{no_holes}
 use Rattle.world_parts.specs.world_view_laws.Begins.{IsStagingNeed, LacksBeside, LacksStaging}
+use Rattle.write_plan.specs.Plans.{staged_run}
 use Rattle.world_parts.specs.world_view_laws.Views.{Disk, IsGoing, state_of, WorldView}
 use Rattle.world_parts.specs.world_view_laws.in_flight.staging_files.Reserves.{IsLacking}
 use Rattle.progress_laws.specs.Laws.{FirstCallsHaveRoom, IsAtFirst}
@@ -49,11 +51,11 @@ none_beside w who call need left none beside = (
     omega (arith, all, rest, fits, less))
 
 -- a write that stages blocks is one that no row refuses
-unrefused : (w : WorldView) (put : Put) (need : ℕ) (o : Option Outcome) → IsStagingNeed w (put_unless o put) need → o ≡ None
+unrefused : (w : WorldView) (put : Put) (need : ℕ) (o : Option Outcome) → IsStagingNeed w (staged_run (state_of w) (put_unless o put)) need → o ≡ None
 unrefused w put need None is = refl
 unrefused w put need (Some outcome) is = absurd is
 
-accepted_of : (w : WorldView) (who : Who) (h : Handle) (at : Option ℕ) (x : List ℕ) (need : ℕ) → IsStagingNeed w (put_by (state_of w) who (call_of h at x)) need
+accepted_of : (w : WorldView) (who : Who) (h : Handle) (at : Option ℕ) (x : List ℕ) (need : ℕ) → IsStagingNeed w (staged_run (state_of w) (put_by (state_of w) who (call_of h at x))) need
     → first (write_rows (state_of w) who h (start_of (state_of w) who h at) x) ≡ None
 unfolding put_by
 accepted_of w who h None x need is = unrefused w _ need (first (write_rows (state_of w) who h (start_of (state_of w) who h None) x)) is
@@ -80,9 +82,10 @@ module _ (fits : FirstWriteFits) (kept_law : StandsAsKept) (room_law : RoomIsKep
         let room = room_is kept_law room_law k t staging files who h at x taken found in
         let start = start_is kept_law room_law k t staging files who h at x taken found starts needs_law none in
         let enough = need_fits (state_of w) who h at x accepts in
-        fits w.geometry k t found.kept true (length w.history) (state_of w) (size_in files (file_number t who h)) (start_at t files who h at) (length x) need left found.stands fresh going.ends (at_least_one (length x) accepts.some) (omega (arith, needed, room, enough))
+        fits w.geometry k t found.kept true (length w.history) (state_of w) Mode.Strict (size_in files (file_number t who h)) (start_at t files who h at) (length x) need left (start_at t files who h at / 4096, staged_count Mode.Strict 0 (start_at t files who h at) (length x)) found.stands fresh going.ends (omega (arith, needed, room, enough))
+        (strict_staged (size_in files (file_number t who h)) (start_at t files who h at) (length x) (at_least_one (length x) accepts.some))
         (subst (λ n. IsLacking (staged_count Mode.Strict 0 n (length x)) staging k need left) start
-        (lacks_in w who h at x k t staging files none one.world.disk_is found.stands.geometry need left lacks))
+        (lacks_in w who h at x k t staging files none one.world.disk_is found.stands.geometry found.strict need left lacks))
 
   -- and no other call stages blocks.
   finds_run : (call : Call) (need left : ℕ) → AtCall k t staging files w who call → LacksStaging w who call need left → ⊥
@@ -94,4 +97,4 @@ module _ (fits : FirstWriteFits) (kept_law : StandsAsKept) (room_law : RoomIsKep
 pub first_calls_have_room : FirstWriteFits → StandsAsKept → RoomIsKept → StartsAsCall → NeedsAsCall → JobsNeed → FirstCallsHaveRoom
 first_calls_have_room fits kept_law room_law starts needs_law jobs k t staging files w who call need left one at (inl beside) = none_beside w who call need left at.none_out beside
 first_calls_have_room fits kept_law room_law starts needs_law jobs k t staging files w who call need left one at (inr (inl holes)) = no_holes w one.world.mode who call need left holes
-first_calls_have_room fits kept_law room_law starts needs_law jobs k t staging files w who call need left one at (inr (inr lacks)) = finds_run fits kept_law room_law starts needs_law jobs k t staging files w who at call need left one lacks
+first_calls_have_room fits kept_law room_law starts needs_law jobs k t staging files w who call need left one at (inr (inr run)) = finds_run fits kept_law room_law starts needs_law jobs k t staging files w who at call need left one run.staging

@@ -27,7 +27,7 @@ use Rattle.world_parts.specs.world_view_laws.declared.views.over.Over.{Over}
 use Rattle.world_parts.specs.world_view_laws.Begins.{Begins, BeginsJob, EndsRound, IsRoundOver, LacksSpace, Returns, Waits}
 use Rattle.world_parts.specs.world_view_laws.Rounds.{IsNextRound, IsRoundBegun, MayCheckpoint}
 use Rattle.world_parts.specs.world_view_laws.Starts.{BeginsMounted}
-use Rattle.world_parts.specs.world_view_laws.Views.{inode_on, IsWorldOver, next_of, state_of, WorldView}
+use Rattle.world_parts.specs.world_view_laws.Views.{Disk, inode_on, IsWorldOver, next_of, state_of, WorldView}
 
 -- ---- an `fsync`
 
@@ -46,11 +46,11 @@ SyncsPublish =
 
 -- ---- the round is over
 
--- WHERE A CALL RETURNED, space did not lack, in strict mode.
+-- WHERE A CALL RETURNED, space did not lack, in strict and in sync mode, whatever filling its holes leaves.
 abbrev pub ReturnsHaveRoom : Type 0
 ReturnsHaveRoom =
-    (who : Who) (old new : WorldView) (before after : Supply) (need left : ℕ) → old.start.mode ≡ Mode.Strict
-    → (returned : Returns who old new before after) → ¬ LacksSpace old old.disk who returned.call need left
+    (who : Who) (old new : WorldView) (before after : Supply) (filled : Disk) (need left : ℕ) → old.start.mode ≢ Mode.Posix
+    → (returned : Returns who old new before after) → ¬ LacksSpace old filled who returned.call need left
 
 -- WHERE IT BECAME A JOB, neither.
 abbrev pub JobsHaveRoom : Type 0
@@ -58,11 +58,17 @@ JobsHaveRoom =
     (who : Who) (old new : WorldView) (after : Supply) (job : JobView) (need left : ℕ)
     → (begun : BeginsJob who old new after job) → ¬ LacksSpace old begun.middle who begun.call need left
 
--- AND AN END OF THE ROUND tells one pair of numbers, in strict mode.
+-- AND AN END OF THE ROUND tells one need; and one room, in strict mode, or where it left as many free blocks.
 abbrev pub EndsWithOnePair : Type 0
 EndsWithOnePair =
     (who : Who) (old new other : WorldView) (after later : Supply) (need left more less : ℕ)
-    → old.start.mode ≡ Mode.Strict → EndsRound who old new after need left → EndsRound who old other later more less → (need ≡ more) × (left ≡ less)
+    → old.start.mode ≢ Mode.Posix → EndsRound who old new after need left → EndsRound who old other later more less
+    → (need ≡ more) × ((old.start.mode ≡ Mode.Strict) ⊎ (new.disk.free ≡ other.disk.free) → left ≡ less)
+
+-- IN STRICT MODE such an end leaves all below the calls as it was.
+abbrev pub StrictEndsLeaveAll : Type 0
+StrictEndsLeaveAll =
+    (who : Who) (old new : WorldView) (after : Supply) (need left : ℕ) → old.start.mode ≡ Mode.Strict → EndsRound who old new after need left → new.disk ≡ old.disk
 
 -- WHERE A CALL WAITS, it does not begin, whatever else is answered from the same World.
 abbrev pub WaitsAlone : Type 0

@@ -4,7 +4,7 @@
 //! open file, which is published (`a_file_that_is_synced_is_published`). Where space lacks for a call, it neither returns
 //! nor becomes a job: so a Begin answers that the round is over exactly where room lacks, but where the power goes or
 //! memory runs out. And the two numbers that it tells are settled by the World: first it asks for room beside the jobs that
-//! are out, and then for room in the staging (`the_end_of_a_round_is_settled`). The first call behind a mount or a
+//! are out, then for the holes of its file, and then for room in the staging (`the_end_of_a_round_is_settled`). The first call behind a mount or a
 //! checkpoint never ends the round (`the_first_call_of_a_round_goes_on`), since it finds room
 //! (`the_first_call_of_a_round_finds_room`), and in each round that comes to a checkpoint a call returned
 //! (`rounds_get_further`): so rounds end.
@@ -14,7 +14,7 @@
 //! Stands on `world_parts`, and on `call_laws` and `write_plan` for the first write. Nothing stands on it: it shows what the words of the layers below come to.
 #![tactic(auto)]
 
-ghost use Rattle.progress_laws.specs.Laws.{BeginsAtFirst, CheckpointsAtFirst, EndsWithOnePair, FirstCallsBegin, FirstCallsGoOn, FirstCallsHaveRoom, JobsHaveRoom, MountsAtFirst, ReturnsHaveRoom, RoundsGetFurther, SyncsPublish, WaitsAlone};
+ghost use Rattle.progress_laws.specs.Laws.{BeginsAtFirst, CheckpointsAtFirst, EndsWithOnePair, FirstCallsBegin, FirstCallsGoOn, FirstCallsHaveRoom, JobsHaveRoom, MountsAtFirst, ReturnsHaveRoom, RoundsGetFurther, StrictEndsLeaveAll, SyncsPublish, WaitsAlone};
 
 use call_laws::{jobs_need_what_their_calls_do, kept_numbers_are_those_of_the_state};
 use write_begin::numbers_are_those_of_the_state;
@@ -26,12 +26,13 @@ pub fn a_file_that_is_synced_is_published()
     ensures { SyncsPublish }
 {}
 
-/// What ends a round for want of space is settled by the World in which the call begins; and a call that waits there does
-/// not begin.
+/// What ends a round for want of space is settled by the World in which the call begins, and in strict mode nothing below
+/// the calls differs then; and a call that waits there does not begin.
 pub fn the_end_of_a_round_is_settled()
     ensures returns { ReturnsHaveRoom }
     ensures jobs { JobsHaveRoom }
     ensures numbers { EndsWithOnePair }
+    ensures still { StrictEndsLeaveAll }
     ensures waits { WaitsAlone }
 {}
 

@@ -1,20 +1,24 @@
 -- Each call of a World within a round is an act of its caller.
-use Rattle.std.specs.Prelude.{◌≡◌, ◌≢◌, ◌+◌, ◌-◌, ◌*◌, ◌^◌, ℕ, true, [], ◌∷◌, Option, Some, None, refl}
+use Rattle.std.specs.Prelude.{◌≡◌, ◌≢◌, ◌+◌, ◌-◌, ◌*◌, ◌^◌, not, ℕ, Bool, true, false, cond, List, [], ◌∷◌, ◌++◌, Option, Some, None, refl}
 use Rattle.std.proofs.Common.{arith, ap, ◌∙◌, sym, subst, inl, inr}
 use Rattle.std.proofs.lemmas.Bool.{cases_Bool}
 use Rattle.eof_laws.specs.pm_model.Powers.{Steps, Supply}
-use Rattle.eof_laws.specs.list_laws.Members.{In, pushed-In}
+use Rattle.eof_laws.specs.list_laws.Filters.{filter-more, filter-same}
+use Rattle.eof_laws.specs.list_laws.Members.{In}
 use Rattle.eof_laws.specs.posix_types.declared.call.Who.{Who}
 use Rattle.world_view_laws.specs.in_flight.Histories.{set_up_stays}
 use Rattle.world_view_laws.specs.live_model.Jobs.{without}
 use Rattle.world_view_laws.specs.live_model.Standing.{JobOut}
-use Rattle.world_view_laws.proofs.Ending.{left_of, stays_in}
-use Rattle.world_view_laws.proofs.Handing.{in_front}
+use Rattle.world_view_laws.proofs.Ending.{left_of, no_both}
+use Rattle.world_view_laws.proofs.in_flight_proofs.Taking.{other_who}
+use Rattle.world_view_laws.proofs.in_flight_proofs.CountsJobs.{same_who-refl}
+use Rattle.world_view_laws.specs.posix_tables.Open.{same_who}
+use Rattle.world_view_laws.specs.write_end.Blocks.{AreBlocksHome}
 use Rattle.world_view_laws.specs.declared.views.over.Over.{Over}
-use Rattle.world_view_laws.specs.Acts.{IsAct}
+use Rattle.world_view_laws.specs.Acts.{IsAct, jobs_of, KeepsHomes}
 use Rattle.world_view_laws.specs.Begins.{item_of, OthersStay}
 use Rattle.world_view_laws.specs.Jobs.{over_by}
-use Rattle.world_view_laws.specs.Views.{WorldView}
+use Rattle.world_view_laws.specs.Views.{Disk, WorldView}
 use Rattle.round_laws.specs.ActsLaws.{FinishActs, GiveUpActs, JobActs, LoseActs, LostCallActs, LostEndActs, LostFinishActs, NothingActs, ReturnsActs, RoundEndActs}
 
 -- ---- steps
@@ -27,8 +31,33 @@ one_act acts before after steps = let one : 1 ≡ acts + 1 - acts = omega arith 
 
 -- ---- what stays
 
-fewer_jobs : (p q : JobOut) (w : WorldView) → q.who ≢ p.who → (In q w.pending → In q (without p.who w.pending)) × (In q (without p.who w.pending) → In q w.pending)
-fewer_jobs p q w other = (λ at. stays_in p.who w.pending q at other, λ at. (left_of p.who w.pending q at).0)
+-- a job of the caller is none of the others'
+pushed_own : (who : Who) (pending : List JobOut) (p : JobOut) → p.who ≡ who → without who (pending ++ p ∷ []) ≡ without who pending
+pushed_own who pending p own =
+    filter-same (λ (q : JobOut). not (same_who q.who who)) pending p (ap (λ w. not (same_who w who)) own ∙ ap not (same_who-refl who))
+
+-- those of the others, of these
+without_twice : (who : Who) (pending : List JobOut) → without who (without who pending) ≡ without who pending
+without_twice who [] = refl
+without_twice who (x ∷ xs) = by (not (same_who x.who who)) refl (without_twice who xs) where
+  by : (b : Bool) → not (same_who x.who who) ≡ b → without who (without who xs) ≡ without who xs
+      → without who (cond b (x ∷ without who xs) (without who xs)) ≡ cond b (x ∷ without who xs) (without who xs)
+  by true stays rest = ap (λ c. cond c (x ∷ without who (without who xs)) (without who (without who xs))) stays ∙ ap (λ ys. x ∷ ys) rest
+  by false goes rest = rest
+
+-- a caller that has no job, and begins one
+jobs_none : (who : Who) (pending : List JobOut) → ((q : JobOut) → In q pending → q.who ≢ who) → jobs_of who pending ≡ []
+jobs_none who [] none = refl
+jobs_none who (q ∷ pending) none =
+    ap (λ b. cond b (q ∷ jobs_of who pending) (jobs_of who pending)) (other_who q.who who (none q (inl refl))) ∙ jobs_none who pending (λ x at. none x (inr at))
+
+jobs_last : (who : Who) (pending : List JobOut) (p : JobOut) → ((q : JobOut) → In q pending → q.who ≢ who) → p.who ≡ who → jobs_of who (pending ++ p ∷ []) ≡ p ∷ []
+jobs_last who pending p none own =
+    filter-more (λ (q : JobOut). same_who q.who who) pending p (ap (λ w. same_who w who) own ∙ same_who-refl who) ∙ ap (λ xs. xs ++ p ∷ []) (jobs_none who pending none)
+
+-- blocks at home
+same_homes : (who : Who) (old new : WorldView) → new.disk ≡ old.disk → KeepsHomes who old new
+same_homes who old new same lost q at other home = subst (λ (d : Disk). AreBlocksHome q.blocks d.cells) (sym same) home
 
 others_same : (who : Who) (w v : WorldView) → v.start ≡ w.start → v.history ≡ w.history → v.pending ≡ w.pending → v.disk ≡ w.disk → OthersStay w v who
 others_same who w v start history pending disk =
@@ -50,7 +79,11 @@ returns_act who old new before after steps is =
       lap = record { geometry = refl; base = refl; first = refl; lines_out = refl; settled = refl };
       item = inr (is.call, is.begins.next, refl);
       pair = inl refl;
-      jobs = λ q other. (λ at. at, λ at. at);
+      jobs = refl;
+      own = inl refl;
+      given_up = inl refl;
+      still = λ lost. no_both old.lost lost is.begins.awake _;
+      homes = λ lost. no_both old.lost lost is.begins.awake _;
       stay = subst (λ (w : WorldView). OthersStay old w who) is.new_is is.stay;
       set_up = λ other done. set_up_stays old.scripts old.history (item_of old who is.call) other is.begins.next done;
       over = λ over was. was;
@@ -61,17 +94,18 @@ returns_act who old new before after steps is =
     })
 
 pub job_acts : JobActs
-job_acts who old new before after job steps is =
+job_acts who old new before after job none steps is =
     by_view who old _ new before after is.new_is (record {
       start = refl;
       scripts = refl;
       lap = record { geometry = refl; base = refl; first = refl; lines_out = refl; settled = refl };
       item = inl refl;
       pair = inl refl;
-      jobs = λ q other. (
-        λ at. in_front old.pending (is.pending ∷ []) q at,
-        λ at. elim (pushed-In old.pending is.pending q at) [ inl was ↦ was | inr own ↦ absurd (other (ap (λ (p : JobOut). p.who) (sym own) ∙ is.who_is)) ],
-      );
+      jobs = pushed_own who old.pending is.pending is.who_is;
+      own = inr (inr (record { job = is.pending; none = none; one = jobs_last who old.pending is.pending none is.who_is; apart = is.apart }));
+      given_up = inl refl;
+      still = λ lost. no_both old.lost lost is.begins.awake _;
+      homes = λ lost. no_both old.lost lost is.begins.awake _;
       stay = subst (λ (w : WorldView). OthersStay old w who) is.new_is is.stay;
       set_up = λ other done. done;
       over = λ over was. was;
@@ -89,7 +123,11 @@ round_end_acts who old new before after need left steps is =
       lap = record { geometry = refl; base = refl; first = refl; lines_out = refl; settled = refl };
       item = inl refl;
       pair = inl refl;
-      jobs = λ q other. (λ at. at, λ at. at);
+      jobs = refl;
+      own = inl refl;
+      given_up = inl refl;
+      still = λ lost. no_both old.lost lost is.begins.awake _;
+      homes = λ lost. no_both old.lost lost is.begins.awake _;
       stay = subst (λ (w : WorldView). OthersStay old w who) is.new_is is.stay;
       set_up = λ other done. done;
       over = λ over was. (let never : None ≡ Some over = sym is.begins.going ∙ was in cc);
@@ -107,7 +145,11 @@ lost_call_acts who old new before after steps is =
       lap = record { geometry = refl; base = refl; first = refl; lines_out = refl; settled = refl };
       item = inl refl;
       pair = inl refl;
-      jobs = λ q other. (λ at. at, λ at. at);
+      jobs = refl;
+      own = inl refl;
+      given_up = inl refl;
+      still = λ lost. no_both old.lost lost is.awake _;
+      homes = λ lost. no_both old.lost lost is.awake _;
       stay = subst (λ (w : WorldView). OthersStay old w who) is.new_is is.stay;
       set_up = λ other done. done;
       over = λ over was. was;
@@ -125,7 +167,11 @@ lost_end_acts who old new power same =
       lap = record { geometry = refl; base = refl; first = refl; lines_out = refl; settled = refl };
       item = inl refl;
       pair = inl refl;
-      jobs = λ q other. (λ at. at, λ at. at);
+      jobs = refl;
+      own = inl refl;
+      given_up = inl refl;
+      still = λ lost. (refl, refl);
+      homes = same_homes who old (record old { acts = old.acts + 1; lost = true }) refl;
       stay = others_same who old (record old { acts = old.acts + 1; lost = true }) refl refl refl refl;
       set_up = λ other done. done;
       over = λ over was. was;
@@ -142,7 +188,11 @@ nothing_acts who w power = record {
   lap = record { geometry = refl; base = refl; first = refl; lines_out = refl; settled = refl };
   item = inl refl;
   pair = inl refl;
-  jobs = λ q other. (λ at. at, λ at. at);
+  jobs = refl;
+  own = inl refl;
+  given_up = inl refl;
+  still = λ lost. (refl, refl);
+  homes = same_homes who w w refl;
   stay = (λ q job apart is. is, λ q job apart is. is);
   set_up = λ other done. done;
   over = λ over was. was;
@@ -166,7 +216,11 @@ finish_acts slot p job old new before after steps out is =
       lap = record { geometry = refl; base = refl; first = refl; lines_out = refl; settled = refl };
       item = inr (p.call, is.next, refl);
       pair = inr (slot, p, out.there, refl, refl);
-      jobs = λ q other. fewer_jobs p q old other;
+      jobs = without_twice p.who old.pending;
+      own = inr (inl (λ q at. (left_of p.who old.pending q at).1));
+      given_up = inl refl;
+      still = λ lost. no_both old.lost lost is.awake _;
+      homes = λ lost. no_both old.lost lost is.awake _;
       stay = subst (λ (w : WorldView). OthersStay old w p.who) is.new_is is.stay;
       set_up = λ other done. set_up_stays old.scripts old.history (item_of old p.who p.call) other is.next done;
       over = λ over was. was;
@@ -184,7 +238,11 @@ lost_finish_acts slot p job old new before after steps spared out is =
       lap = record { geometry = refl; base = refl; first = refl; lines_out = refl; settled = refl };
       item = inl refl;
       pair = inr (slot, p, out.there, refl, refl);
-      jobs = λ q other. (λ at. at, λ at. at);
+      jobs = refl;
+      own = inl refl;
+      given_up = inl refl;
+      still = λ lost. (refl, refl);
+      homes = λ lost q at other home. subst (λ (w : WorldView). AreBlocksHome q.blocks w.disk.cells) is.new_is (is.homes q at other home);
       stay = subst (λ (w : WorldView). OthersStay old w p.who) is.new_is is.stay;
       set_up = λ other done. done;
       over = λ over was. was;
@@ -205,7 +263,11 @@ give_up_acts full p job old new power out is =
       lap = record { geometry = refl; base = refl; first = refl; lines_out = refl; settled = refl };
       item = inl refl;
       pair = inl refl;
-      jobs = λ q other. fewer_jobs p q old other;
+      jobs = without_twice p.who old.pending;
+      own = inr (inl (λ q at. (left_of p.who old.pending q at).1));
+      given_up = inr (refl, λ q at. (left_of p.who old.pending q at).1, λ none. (let never : Some (over_by old.over full) ≡ None = none in cc));
+      still = λ lost. (refl, refl);
+      homes = λ lost q at other home. subst (λ (w : WorldView). AreBlocksHome q.blocks w.disk.cells) is.new_is (is.homes q at other home);
       stay = subst (λ (w : WorldView). OthersStay old w p.who) is.new_is is.stay;
       set_up = λ other done. done;
       over = λ over was. ap (λ (o : Option Over). (let ended : Option Over = Some (over_by o full) in ended)) was;
@@ -222,7 +284,11 @@ lose_acts who w power = record {
   lap = record { geometry = refl; base = refl; first = refl; lines_out = refl; settled = refl };
   item = inl refl;
   pair = inl refl;
-  jobs = λ q other. (λ at. at, λ at. at);
+  jobs = refl;
+  own = inl refl;
+  given_up = inl refl;
+  still = λ lost. (refl, refl);
+  homes = same_homes who w (record w { lost = true }) refl;
   stay = others_same who w (record w { lost = true }) refl refl refl refl;
   set_up = λ other done. done;
   over = λ over was. was;

@@ -68,22 +68,22 @@ module _ (g : Geometry) (image : Words) (k : View) (mounted : IsMounted g image 
         | inr below ↦ (let next : k.volume.base ≡ v.base + g.log = mounted.base.risen below in omega arith)
       ]
 
-module _ (ending : EndBegun) (g : Geometry) (image : Words) (k : View) (t : List TreeEntry) (shape : Shape) (scripts : Scripts) (files : Files)
-    (may : MayStart g image k t shape Mode.Strict scripts) (table : HasSizesOf k.volume files) where
+module _ (ending : EndBegun) (g : Geometry) (image : Words) (k : View) (t : List TreeEntry) (shape : Shape) (mode : Mode) (scripts : Scripts) (files : Files)
+    (may : MayStart g image k t shape mode scripts) (table : HasSizesOf k.volume files) where
   same : k.volume.geometry ≡ g
   same = same_places g image k may.mounted
 
   -- K-SPLIT RUNS with the state of the tree.
-  running : IsRunning k.volume k.cells [] (numbers_of k.volume t) (start t shape Mode.Strict) 0
+  running : IsRunning k.volume k.cells [] (numbers_of k.volume t) (start t shape mode) 0
   running =
-      (begins_running k.volume k.cells t shape Mode.Strict (stands_at_rest k may.mounted.rest) may.mounted.rest.single
+      (begins_running k.volume k.cells t shape mode (stands_at_rest k may.mounted.rest) may.mounted.rest.single
       (subst (λ (x : Geometry). IsCheckedAs (4096 * x.blocks) (words_of k.cells) k.volume) (sym same) may.mounted.checked) (may.mounted.numbers ∙ sym same) may.mounted.rest.order.whole.kept.geometry may.mounted.named may.mounted.no_entry
       (shape_of k.volume.geometry shape may.shown.shape_is) (shown_tree (content k.volume.geometry (words_of k.cells)) t may.shown.tree_is)).0
 
   all_home : AllHome k.cells
   all_home i = single-home (cell k.cells i) (may.mounted.rest.single i)
 
-  distinct : AreDistinct (start t shape Mode.Strict).entries
+  distinct : AreDistinct (start t shape mode).entries
   distinct = (running.device.world (words_of k.cells) (IsImage-words_of k.cells)).valid.stands.names.distinct
 
   sizes : AreSizes k.volume [] files.sizes
@@ -106,7 +106,7 @@ module _ (ending : EndBegun) (g : Geometry) (image : Words) (k : View) (t : List
   none_open ino there = cc
 
   -- ALL STANDS TOGETHER.
-  stands : StandsAt k.volume.geometry k nothing_open (kept_of (first_view k files t shape Mode.Strict scripts) nothing_staged files) false 0 (start t shape Mode.Strict)
+  stands : StandsAt k.volume.geometry k nothing_open (kept_of (first_view k files t shape mode scripts) nothing_staged files) false 0 (start t shape mode)
   stands = record {
     count = 0;
     few = omega arith;
@@ -129,9 +129,9 @@ module _ (ending : EndBegun) (g : Geometry) (image : Words) (k : View) (t : List
     blocks = λ p at. absurd at;
     callers = λ i j d before below. absurd (omega (arith, below));
     spare = λ p at. absurd at;
-    tables = fold_tables (bare shape Mode.Strict) t ∙ sym (nothing_is_open (number (numbers_of k.volume t)));
+    tables = fold_tables (bare shape mode) t ∙ sym (nothing_is_open (number (numbers_of k.volume t)));
     open_are_files = none_open;
-    ordered = (distinct, start-rising t shape Mode.Strict distinct);
+    ordered = (distinct, start-rising t shape mode distinct);
     sizes = sizes;
     bare = λ ino other. table.runs ino;
     staged = staged-nothing;
@@ -157,7 +157,7 @@ module _ (ending : EndBegun) (g : Geometry) (image : Words) (k : View) (t : List
       let was = may.mounted.old_lines slot below (ap is_self_valid (sym (seen slot)) ∙ valid) in
       omega (arith, was, ap held_seq (seen slot))
 
-  going : IsGoing k nothing_open nothing_staged files (first_view k files t shape Mode.Strict scripts)
+  going : IsGoing k nothing_open nothing_staged files (first_view k files t shape mode scripts)
   going = record {
     stands = stands;
     counted = λ mode. refl;
@@ -172,7 +172,7 @@ module _ (ending : EndBegun) (g : Geometry) (image : Words) (k : View) (t : List
     log_home = λ home. record { home = all_home; none = refl; old = old };
   }
 
-  counted : AreCounted (first_view k files t shape Mode.Strict scripts)
+  counted : AreCounted (first_view k files t shape mode scripts)
   counted = record {
     settled = omega arith;
     fresh = λ over. refl;
@@ -186,9 +186,9 @@ module _ (ending : EndBegun) (g : Geometry) (image : Words) (k : View) (t : List
   }
 
   -- THE WORLD GOES ON.
-  pub starts : IsWorldOver k nothing_open nothing_staged files (first_view k files t shape Mode.Strict scripts)
+  pub starts : IsWorldOver k nothing_open nothing_staged files (first_view k files t shape mode scripts)
   starts = record {
-    mode = (has_setting t shape Mode.Strict).1;
+    mode = (has_setting t shape mode).1 ∙ may.strict;
     few = may.limits.few;
     threads = may.limits.threads;
     spelled = may.limits.spelled;
@@ -201,10 +201,5 @@ module _ (ending : EndBegun) (g : Geometry) (image : Words) (k : View) (t : List
     gone = λ off. (let never : true ≡ false = sym off in cc);
   }
 
-strict_start : (g : Geometry) (image : Words) (k : View) (t : List TreeEntry) (shape : Shape) (mode : Mode) (scripts : Scripts) → MayStart g image k t shape mode scripts → MayStart g image k t shape Mode.Strict scripts
-strict_start g image k t shape mode scripts may = record { mounted = may.mounted; shown = may.shown; strict = refl; limits = may.limits }
-
 pub starts_going : EndBegun → StartsGoing
-starts_going ending g image k t shape mode scripts files may table =
-    subst (λ (m : Mode). IsWorldOver k nothing_open nothing_staged files (first_view k files t shape m scripts)) (sym may.strict)
-    (starts ending g image k t shape scripts files (strict_start g image k t shape mode scripts may) table)
+starts_going ending g image k t shape mode scripts files may table = starts ending g image k t shape mode scripts files may table

@@ -8,7 +8,7 @@ use Rattle.world_view_laws.specs.write_jobs.Jobs.{FilledView, JobView}
 use Rattle.world_view_laws.specs.Acts.{IsAct}
 use Rattle.world_view_laws.specs.Begins.{BeginsJob, EndsRound, IsFilledOut, LosesCall, Returns}
 use Rattle.world_view_laws.specs.Jobs.{Finishes, GivesUp, LosesFinish}
-use Rattle.world_view_laws.specs.Views.{WorldView}
+use Rattle.world_view_laws.specs.Views.{HasNone, WorldView}
 
 -- ---- what `begin` answers, but that it wants memory
 
@@ -16,7 +16,8 @@ abbrev pub ReturnsActs : Type 0
 ReturnsActs = (who : Who) (old new : WorldView) (before after : Supply) → Steps (2 ^ 26) before after → Returns who old new before after → IsAct who old new before after
 
 abbrev pub JobActs : Type 0
-JobActs = (who : Who) (old new : WorldView) (before after : Supply) (job : JobView) → Steps (2 ^ 26) before after → BeginsJob who old new after job → IsAct who old new before after
+JobActs =
+    (who : Who) (old new : WorldView) (before after : Supply) (job : JobView) → HasNone old who → Steps (2 ^ 26) before after → BeginsJob who old new after job → IsAct who old new before after
 
 abbrev pub RoundEndActs : Type 0
 RoundEndActs = (who : Who) (old new : WorldView) (before after : Supply) (need left : ℕ) → Steps (2 ^ 26) before after → EndsRound who old new after need left → IsAct who old new before after

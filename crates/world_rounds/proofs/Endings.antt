@@ -1,5 +1,5 @@
 -- The end of a run.
-use Rattle.std.specs.Prelude.{◌≡◌, ◌≤◌, ◌+◌, false, List, [], length}
+use Rattle.std.specs.Prelude.{◌≡◌, ◌≢◌, ◌≤◌, ◌+◌, false, List, [], length, refl}
 use Rattle.std.specs.Vec.{vec_capacity}
 use Rattle.std.proofs.Common.{arith, ap, sym, subst}
 use Rattle.world_parts.specs.pm_model.declared.Cell.{Cell}
@@ -7,9 +7,11 @@ use Rattle.world_parts.specs.layout_model.Places.{Geometry}
 use Rattle.world_parts.specs.k_split_model.View.{View}
 use Rattle.posix_types.specs.declared.call.Mode.{Mode}
 use Rattle.world_parts.specs.crash_spec.Permitted.{Permitted}
+use Rattle.world_parts.specs.crash_spec.RelationLaws.{Strict-idle, Sync-idle}
 use Rattle.world_parts.specs.posix_spec.Run.{Unfinished}
+use Rattle.world_parts.specs.posix_spec.Tree.{tree}
 use Rattle.world_parts.specs.world_view_laws.Rounds.{IsLeft}
-use Rattle.world_parts.specs.world_view_laws.Views.{WorldView}
+use Rattle.world_parts.specs.world_view_laws.Views.{state_of, WorldView}
 use Rattle.world_parts.specs.Answers.{HasEmptyLog, HasTreeOf}
 use Rattle.world_parts.specs.declared.parts.Parts.{Parts}
 use Rattle.world_parts.specs.Seen.{IsKept, seen, unfinished_of}
@@ -28,7 +30,10 @@ left_by p m pm unfinished same left = subst (λ (d : List Cell). IsLeft (seen p)
 pub empty_by : (g : Geometry) (m : View) (pm : List Cell) → pm ≡ m.cells → HasEmptyLog g m.cells → HasEmptyLog g pm
 empty_by g m pm same empty = subst (λ (d : List Cell). HasEmptyLog g d) (sym same) empty
 
--- In strict mode the promise with nothing unfinished permits no other tree than that of the history.
-pub tree_by : (w : WorldView) (pm : List Cell) → w.start.mode ≡ Mode.Strict → IsLeft w pm w.history [] → HasTreeOf w pm
-tree_by w pm strict left image is honest shown content_is =
-    subst (λ (m : Mode). Permitted m w.start w.history [] shown) strict ((left.promise image is honest).permitted shown content_is)
+-- Outside POSIX mode the promise with nothing unfinished permits no other tree than that of the history.
+pub tree_by : (w : WorldView) (pm : List Cell) → w.start.mode ≢ Mode.Posix → IsLeft w pm w.history [] → HasTreeOf w pm
+tree_by w pm other left image is honest shown content_is = by w.start.mode other ((left.promise image is honest).permitted shown content_is) where
+  by : (mode : Mode) → mode ≢ Mode.Posix → Permitted mode w.start w.history [] shown → shown ≡ tree (state_of w)
+  by Mode.Strict other permitted = Strict-idle w.start w.history shown permitted
+  by Mode.Sync other permitted = Sync-idle w.start w.history shown permitted
+  by Mode.Posix other permitted = absurd (other refl)

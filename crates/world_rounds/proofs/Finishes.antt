@@ -1,9 +1,12 @@
 -- A job of the parts of a World finishes while the power is on.
-use Rattle.std.specs.Prelude.{◌≡◌, ◌≤◌, ◌<◌, ◌+◌, ◌^◌, ◌++◌, ℕ, true, false, List, [], ◌∷◌, length, Some, AllPairs, vec_len, refl}
+use Rattle.std.specs.Prelude.{◌≡◌, ◌≤◌, ◌<◌, ◌+◌, ◌^◌, ◌++◌, ℕ, true, false, List, [], ◌∷◌, length, Some, AllPairs, slice_index, slice_index_or, vec_len, refl}
 use Rattle.std.specs.Vec.{vec_capacity}
-use Rattle.std.proofs.Common.{Global, Vec, arith, ap, ◌∙◌, sym, subst, length-append}
+use Rattle.std.proofs.Common.{Global, Vec, arith, ap, ◌∙◌, sym, subst, inl, inr, length-append}
+use Rattle.std.proofs.lemmas.Bool.{cases_lt}
+use Rattle.std.proofs.lemmas.List.{get_or-set_other, get_or-set_same, get_or_past, length-set}
+use Rattle.std.proofs.lemmas.List.FromFn.{get_or-map-range_with_len, length-map-range_with_len}
 use Rattle.world_parts.specs.layout_model.declared.lines.Draft.{Draft}
-use Rattle.world_parts.specs.file_table.Files.{Files}
+use Rattle.world_parts.specs.file_table.Files.{ChangesFile, Files, runs_in}
 use Rattle.world_parts.specs.eof_laws.FinishesLaws.{EndFinished}
 use Rattle.world_parts.specs.k_split_model.View.{View}
 use Rattle.world_parts.specs.list_laws.Members.{In}
@@ -17,15 +20,17 @@ use Rattle.world_parts.specs.in_flight.Counters.{count_for, IsCounted}
 use Rattle.world_parts.specs.in_flight.Histories.{item_with}
 use Rattle.world_parts.specs.in_flight.live_model.Standing.{AreOfTwoThreads, JobOut}
 use Rattle.world_parts.specs.in_flight.live_model.Jobs.{without}
-use Rattle.world_parts.specs.world_view_laws.Puts.{put_bytes_of}
-use Rattle.world_parts.proofs.world_view_laws_proofs.Ending.{can_finish, finish_view, finished_on, has, has_write, others_on, without_one}
+use Rattle.world_parts.specs.in_flight.live_model.Overlays.{run_of}
+use Rattle.world_parts.specs.in_flight.world_model.Jobs.{put_bytes_of}
+use Rattle.world_parts.proofs.world_view_laws_proofs.Ending.{can_finish, finish_view, finished_on, has, has_size, has_write, others_on, strict, without_one}
 use Rattle.world_parts.proofs.world_view_laws_proofs.OpenCalls.{next_of_job}
 use Rattle.world_parts.proofs.world_view_laws_proofs.Finishing.{finished_ends, job_answers, one_job}
 use Rattle.world_parts.specs.world_view_laws.file_calls.open_files.State.{OpenState}
+use Rattle.posix_types.specs.declared.call.Mode.{Mode}
 use Rattle.world_parts.specs.world_view_laws.write_end.Ends.{CanFinish, HasJob, HasWrite, LeavesFinished}
 use Rattle.world_parts.specs.world_view_laws.Begins.{IsFilledOut}
 use Rattle.world_parts.specs.world_view_laws.Jobs.{Finishes}
-use Rattle.world_parts.specs.world_view_laws.Views.{disk_of, IsGoing, IsWorldOver, next_of, overlays_of, state_of, WorldView}
+use Rattle.world_parts.specs.world_view_laws.Views.{disk_of, IsGoing, IsWorldOver, next_of, overlays_of, runs_on, state_of, WorldView}
 use Rattle.world_parts.specs.write_jobs.Jobs.{FilledView}
 use Rattle.world_parts.specs.declared.parts.Parts.{Parts}
 use Rattle.world_parts.specs.Seen.{IsKept, seen}
@@ -36,6 +41,20 @@ use Rattle.world_parts.proofs.Adding.{few_acts, added_kept, added_seen, added_vi
 pub some_in : {X : Type 0} (xs : List X) (x : X) → In x xs → 1 ≤ length xs
 some_in [] x at = absurd at
 some_in (y ∷ xs) x at = omega arith
+
+-- the runs of a file, as the World shows them
+runs_at : (files : Files) (ino : ℕ) → ino < length files.sizes → slice_index_or (overlays_of files) ino [] ≡ runs_in files ino
+runs_at files ino below = get_or-map-range_with_len (runs_in files) 0 (length files.sizes) ino ino [] below (omega arith)
+
+runs_past : (files : Files) (ino : ℕ) → length files.sizes ≤ ino → slice_index_or (overlays_of files) ino [] ≡ []
+runs_past files ino past = get_or_past (overlays_of files) ino [] (omega (arith, past, length-map-range_with_len (runs_in files) 0 (length files.sizes)))
+
+runs_same : (old new : Files) (ino : ℕ) → length new.sizes ≡ length old.sizes → runs_in new ino ≡ runs_in old ino
+    → slice_index_or (overlays_of new) ino [] ≡ slice_index_or (overlays_of old) ino []
+runs_same old new ino count same = elim (cases_lt ino (length old.sizes)) [
+  | inl below ↦ runs_at new ino (omega (arith, below, count)) ∙ same ∙ sym (runs_at old ino below)
+  | inr past ↦ runs_past new ino (omega (arith, past, count)) ∙ sym (runs_past old ino past)
+]
 
 module _ (p : Parts) (kept : IsKept p) (awake : p.lost ≡ false) (out : p.lines_out ≡ true) (job : FilledView) (q : JobOut) (is_out : IsFilledOut (seen p) q job) where
   going : IsGoing p.k p.files.tables p.staging p.data (seen p)
@@ -69,7 +88,7 @@ module _ (p : Parts) (kept : IsKept p) (awake : p.lost ≡ false) (out : p.lines
   module _ (law : EndFinished) (slot : ℕ) (taken : JobOut) (same : taken ≡ q) (outcome : Outcome) (replied : outcome ≡ answer (Reply.Count (length (put_bytes_of taken.call))))
       (k : View) (files : OpenState) (laid : Files) (claims : Vec (ℕ × Draft) Global) (pending : Vec JobOut Global) (left : pending.items ≡ without job.who p.pending.items) (k_is : k ≡ record p.k { cells = k.cells })
       (claimed : claims.items ≡ p.claims.items ++ (slot, job.draft) ∷ []) (capacity : vec_capacity claims ≡ vec_capacity p.claims)
-      (leaves : (one : HasJob p.k job) → HasWrite p.k job p.files.tables p.data taken.call one → LeavesFinished p.k job one slot k files.tables laid) where
+      (leaves : (one : HasJob p.k job) → HasWrite p.k job p.files.tables p.data taken.call one → one.s.mode ≡ Mode.Strict → LeavesFinished p.k job one slot k files.tables laid) where
     abbrev pub middle : Parts
     middle = record p { k = k; files = files; «data» = laid; claims = claims; pending = pending }
 
@@ -78,6 +97,7 @@ module _ (p : Parts) (kept : IsKept p) (awake : p.lost ≡ false) (out : p.lines
         leaves (has p.k p.files.tables p.staging p.data (seen p) kept.world awake out q job is_out)
         (subst (λ (x : JobOut). HasWrite p.k job p.files.tables p.data x.call (has p.k p.files.tables p.staging p.data (seen p) kept.world awake out q job is_out)) (sym same)
         (has_write p.k p.files.tables p.staging p.data (seen p) kept.world awake out q job is_out))
+        (strict p.k p.files.tables p.staging p.data (seen p) kept.world awake out q job is_out)
 
     abbrev then_view : WorldView
     then_view = finish_view p.k p.files.tables p.staging p.data (seen p) kept.world awake out q job is_out slot k files.tables laid
@@ -137,16 +157,30 @@ module _ (p : Parts) (kept : IsKept p) (awake : p.lost ≡ false) (out : p.lines
       seen_then : then_view ≡ seen r
       seen_then = same_view ∙ sym (added_seen taken.who taken.call outcome middle r added kept.counts)
 
+      ino_is : job.draft.ino ≡ q.draft.ino
+      ino_is = ap (λ (d : Draft). d.ino) is_out.draft
+
+      below : job.draft.ino < length p.data.sizes
+      below = let low = has_size p.k p.files.tables p.staging p.data (seen p) kept.world awake out q job is_out in omega (arith, low, ino_is)
+
       disk_so : disk_of k files.tables p.staging laid ≡ record (seen p).disk { cells = k.cells; tables = files.tables; overlays = overlays_of laid; sizes = laid.sizes }
       disk_so = ap (λ (x : View). disk_of x files.tables p.staging laid) k_is
 
-      pub finished_so : (power : Supply) → is_on power ≡ true → Finishes slot q (seen p) (seen r) power
-      finished_so power on = subst (λ (v : WorldView). Finishes slot q (seen p) v power) seen_then (record {
+      pub finished_so : ChangesFile job.draft.ino (runs_in p.data job.draft.ino ++ run_of job.draft ∷ []) job.draft.size p.data laid → (power : Supply) → is_on power ≡ true
+          → Finishes slot q (seen p) (seen r) power
+      finished_so lays power on = subst (λ (v : WorldView). Finishes slot q (seen p) v power) seen_then (record {
         awake = awake;
         on = on;
         next = next_job;
         new_is = refl;
         disk = disk_so;
+        others = λ ino apart. (
+          runs_same p.data laid ino (ap length lays.sizes ∙ length-set p.data.sizes job.draft.ino job.draft.size) (lays.others ino (λ same. apart (same ∙ ino_is))),
+          ap (λ (xs : List ℕ). slice_index xs ino) lays.sizes ∙ get_or-set_other p.data.sizes job.draft.ino ino job.draft.size 0 (λ same. apart (same ∙ ino_is)),
+        );
+        runs = subst (λ (d : Draft). runs_on (disk_of k files.tables p.staging laid) d.ino ≡ runs_on (seen p).disk d.ino ++ run_of d ∷ []) is_out.draft
+            (runs_at laid job.draft.ino (omega (arith, below, ap length lays.sizes, length-set p.data.sizes job.draft.ino job.draft.size)) ∙ lays.runs_are ∙ ap (λ xs. xs ++ run_of job.draft ∷ []) (sym (runs_at p.data job.draft.ino below)));
+        size = subst (λ (d : Draft). slice_index laid.sizes d.ino ≡ d.size) is_out.draft (ap (λ (xs : List ℕ). slice_index xs job.draft.ino) lays.sizes ∙ get_or-set_same p.data.sizes job.draft.ino job.draft.size 0 below);
         stay = others_on p.k p.files.tables p.staging p.data (seen p) kept.world awake out q job is_out slot k files.tables laid k_is left_so
             (finished_ends law p.k p.files.tables p.staging p.data (seen p) kept.world awake out q job is_out slot k files.tables laid k_is left_so);
       })

@@ -1,7 +1,9 @@
 -- A job of a World ends while the power is on.
-use Rattle.std.specs.Prelude.{◌≡◌, ◌≢◌, ◌+◌, ◌++◌, not, ℕ, suc, Bool, true, false, cond, List, [], ◌∷◌, length, map, Option, Some, None, AllPairs, refl}
+use Rattle.std.specs.Prelude.{◌≡◌, ◌≢◌, ◌<◌, ◌+◌, ◌++◌, not, ℕ, suc, Bool, true, false, cond, List, [], ◌∷◌, length, map, Option, Some, None, AllPairs, refl}
 use Rattle.std.proofs.Common.{arith, ap, ◌∙◌, sym, subst, inl, inr, length-append}
 use Rattle.eof_laws.specs.pm_model.Cells.{cell, is_lent}
+use Rattle.eof_laws.specs.pm_model.ImageLaws.{IsImage-words_of}
+use Rattle.eof_laws.specs.pm_model.Images.{words_of}
 use Rattle.eof_laws.specs.layout_model.declared.lines.Draft.{Draft}
 use Rattle.in_flight.specs.image_model.Volume.{Volume}
 use Rattle.file_calls.specs.eof_laws.Ends.{FilesEnd}
@@ -18,11 +20,15 @@ use Rattle.in_flight.specs.posix_spec.Unfinished.{AreUnfinished, IsNextCall}
 use Rattle.in_flight.specs.Histories.{Grows, grows}
 use Rattle.in_flight.specs.staging_files.Keeps.{Staged}
 use Rattle.in_flight.specs.world_image_laws.Settings.{setting_run}
+use Rattle.in_flight.specs.world_image_laws.world_model.JobLaws.{live_used}
+use Rattle.in_flight.specs.world_image_laws.world_model.TreeRules.{used_below}
 use Rattle.in_flight.specs.live_model.Standing.{AreOfTwoThreads, IsSpellable, JobOut, StandsAt}
 use Rattle.in_flight.specs.live_model.Jobs.{SpellCall, without}
+use Rattle.eof_laws.specs.posix_types.declared.call.Mode.{Mode}
 use Rattle.write_end.specs.Ends.{begun_by, CanFinish, CanGiveUp, HasJob, HasWrite, LeavesFinished, LeavesGivenUp}
 use Rattle.in_flight.specs.write_jobs.Jobs.{FilledView}
 use Rattle.write_end.proofs.Homes.{has_blocks_out}
+use Rattle.write_end.proofs.LosingPending.{job_of, stands_of}
 use Rattle.in_flight.proofs.CountsCounts.{pairs}
 use Rattle.in_flight.proofs.CountsJobs.{same_who-refl, spellable}
 use Rattle.in_flight.proofs.Taking.{all_left, other_who}
@@ -90,14 +96,26 @@ module _ (k : View) (t : Tables) (staging : Staged) (files : Files) (w : WorldVi
     out = record { there = is_out.there; who = is_out.who; draft = is_out.draft; blocks = is_out.blocks; words = is_out.words };
   }
 
+  pub strict : has.s.mode ≡ Mode.Strict
+  strict = (setting_run w.start w.history).mode ∙ world.mode
+
   pub has_write : HasWrite k job t files p.call has
-  has_write = record { tables = refl; files_are = refl; call_is = refl; strict = (setting_run w.start w.history).mode ∙ world.mode }
+  has_write = record { tables = refl; files_are = refl; call_is = refl; mode = λ posix. (let never : Mode.Strict ≡ Mode.Posix = sym strict ∙ posix in cc) }
 
   pub can_finish : CanFinish k job t files p.call
   can_finish = (has, has_write)
 
   pub can_give_up : CanGiveUp k job staging
   can_give_up = (has, refl)
+
+  -- its file has a size
+  pub has_size : p.draft.ino < length files.sizes
+  has_size =
+      let its = job_of w.pending standing.jobs p standing.jobs_are is_out.there in
+      let world_on = standing.flying.device.world (words_of k.cells) (IsImage-words_of k.cells) in
+      let stood = stands_of k.volume _ _ _ (state_of w) standing.jobs its.job world_on.valid.out its.there in
+      let low = used_below k.volume its.job.draft.ino (live_used k.volume its.job.draft stood.alive) in
+      omega (arith, low, standing.sizes.count, ap (λ (d : Draft). d.ino) its.draft)
 
   -- the blocks of all jobs are out, and so no block of another job was at home
   pub homes_on : (new : WorldView) → HomesStay p w new

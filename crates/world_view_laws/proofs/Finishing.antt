@@ -24,7 +24,7 @@ use Rattle.in_flight.specs.live_model.Standing.{AreOfTwoThreads, Kept, JobOut, S
 use Rattle.file_calls.specs.eof_laws.Ends.{FilesEnd}
 use Rattle.write_end.specs.Ends.{LeavesFinished}
 use Rattle.in_flight.specs.write_jobs.Jobs.{FilledView}
-use Rattle.world_view_laws.specs.Puts.{put_bytes_of}
+use Rattle.in_flight.specs.world_model.Jobs.{put_bytes_of}
 use Rattle.world_view_laws.proofs.Ending.{has, no_both}
 use Rattle.world_view_laws.specs.Begins.{IsFilledOut}
 use Rattle.world_view_laws.specs.Views.{IsWorldOver, kept_of, state_of, WorldView}

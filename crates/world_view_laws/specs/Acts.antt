@@ -1,15 +1,17 @@
 -- What one call leaves of a World, whoever makes it and whatever it answers; and what a World shows a caller.
-use Rattle.std.specs.Prelude.{◌≡◌, ◌≢◌, ◌⊎◌, ◌+◌, ◌-◌, ◌*◌, ◌^◌, ◌==◌, ◌&&◌, ◌||◌, not, ℕ, Bool, true, [], ◌∷◌, ◌++◌, length, Option, Some, is_none}
+use Rattle.std.specs.Prelude.{◌≡◌, ◌≢◌, ◌⊎◌, ◌+◌, ◌-◌, ◌*◌, ◌^◌, ◌==◌, ◌&&◌, ◌||◌, not, ℕ, Bool, true, List, [], ◌∷◌, ◌++◌, filter, length, Option, Some, None, is_none}
 use Rattle.in_flight.specs.pm_model.Powers.{Steps, Supply}
 use Rattle.in_flight.specs.list_laws.Members.{In}
 use Rattle.in_flight.specs.posix_types.declared.call.Call.{Call}
 use Rattle.in_flight.specs.posix_types.declared.call.Who.{Who}
 use Rattle.in_flight.specs.posix_tables.Open.{same_who}
 use Rattle.in_flight.specs.posix_spec.Scripted.{IsSetUp, items_of}
+use Rattle.in_flight.specs.live_model.Jobs.{without}
 use Rattle.in_flight.specs.live_model.Standing.{JobOut}
+use Rattle.write_end.specs.Blocks.{AreBlocksHome}
 use Rattle.world_view_laws.specs.declared.views.over.Over.{Over}
 use Rattle.world_view_laws.specs.Begins.{item_of, OthersStay}
-use Rattle.world_view_laws.specs.Views.{next_of, WorldView}
+use Rattle.world_view_laws.specs.Views.{HasNone, next_of, WorldView}
 
 -- at most one item is added, that of the caller's next call
 abbrev pub AddsOne : Who → WorldView → WorldView → Type 0
@@ -21,9 +23,33 @@ abbrev pub ClaimsOne : Who → WorldView → WorldView → Type 0
 ClaimsOne who old new =
     (new.claims ≡ old.claims) ⊎ ((slot : ℕ) × (p : JobOut) × In p old.pending × (p.who ≡ who) × (new.claims ≡ old.claims ++ (slot, p.draft) ∷ []))
 
--- the jobs of other callers are the same
+-- the jobs of a caller that are out, in the order of their beginning
+abbrev pub jobs_of : Who → List JobOut → List JobOut
+jobs_of who pending = filter (λ (p : JobOut). same_who p.who who) pending
+
+-- THE JOBS OF OTHER CALLERS are the same, in the same order.
 abbrev pub KeepsOthers : Who → WorldView → WorldView → Type 0
-KeepsOthers who old new = (q : JobOut) → q.who ≢ who → (In q old.pending → In q new.pending) × (In q new.pending → In q old.pending)
+KeepsOthers who old new = without who new.pending ≡ without who old.pending
+
+-- The caller had no job out, and has one, with an entry that no other job has.
+pub record BeginsOne (who : Who) (old new : WorldView) : Type 0 where
+  pub job : JobOut
+  pub none : HasNone old who
+  pub one : jobs_of who new.pending ≡ job ∷ []
+  pub apart : (q : JobOut) → In q old.pending → q.draft ≢ job.draft
+
+-- its own job is as it was; or it has none any more; or one began
+abbrev pub MovesOwn : Who → WorldView → WorldView → Type 0
+MovesOwn who old new = (jobs_of who new.pending ≡ jobs_of who old.pending) ⊎ (HasNone new who ⊎ BeginsOne who old new)
+
+-- at most one job was given up; then its caller has none, and the round is over
+abbrev pub GivesUpOne : Who → WorldView → WorldView → Type 0
+GivesUpOne who old new = (new.given_up ≡ old.given_up) ⊎ ((new.given_up ≡ old.given_up + 1) × HasNone new who × (new.over ≢ None))
+
+-- once the power was lost, the blocks of the jobs of others that are at home stay there
+abbrev pub KeepsHomes : Who → WorldView → WorldView → Type 0
+KeepsHomes who old new =
+    old.lost ≡ true → (q : JobOut) → In q old.pending → q.who ≢ who → AreBlocksHome q.blocks old.disk.cells → AreBlocksHome q.blocks new.disk.cells
 
 -- The lap is the same: the numbers of the log, its base, the words that its lines had when it began, whether they are out, and how many calls
 -- had returned then.
@@ -34,9 +60,10 @@ pub record IsSameLap (old new : WorldView) : Type 0 where
   pub lines_out : new.lines_out ≡ old.lines_out
   pub settled : new.settled ≡ old.settled
 
--- ONE CALL OF A CALLER, within a round, that did not run out of memory: at most one item and one pair are added, both of the caller; what
--- others have out stays; so do the start, the scripts and the lap, a set-up that is done, the cause of a round that is over, and a loss of
--- the power. It is one act, or none, with at most 2^26 steps for the act.
+-- ONE CALL OF A CALLER, within a round, that did not run out of memory: at most one item and one pair are added, both of the caller; its own
+-- job began, ended or stayed, and what others have out stays; at most one job was given up; once the power was lost nothing returns, no call
+-- more is unfinished, and blocks that are at home stay there; and the start, the scripts and the lap stay, a set-up that is done, the cause of
+-- a round that is over, and a loss of the power. It is one act, or none, with at most 2^26 steps for the act.
 pub record IsAct (who : Who) (old new : WorldView) (before after : Supply) : Type 0 where
   pub start : new.start ≡ old.start
   pub scripts : new.scripts ≡ old.scripts
@@ -44,6 +71,10 @@ pub record IsAct (who : Who) (old new : WorldView) (before after : Supply) : Typ
   pub item : AddsOne who old new
   pub pair : ClaimsOne who old new
   pub jobs : KeepsOthers who old new
+  pub own : MovesOwn who old new
+  pub given_up : GivesUpOne who old new
+  pub still : old.lost ≡ true → (new.history ≡ old.history) × (new.unfinished ≡ old.unfinished)
+  pub homes : KeepsHomes who old new
   pub stay : OthersStay old new who
   pub set_up : (other : Who) → IsSetUp old.scripts old.history other → IsSetUp new.scripts new.history other
   pub over : (over : Over) → old.over ≡ Some over → new.over ≡ Some over

@@ -1,6 +1,5 @@
 -- What `begin` leaves, and what is so before it.
 use Rattle.std.specs.Prelude.{◌≡◌, ◌≢◌, ◌⊎◌, ◌<◌, ◌≤◌, ◌+◌, ◌-◌, ◌/◌, ℕ, true, false, [], ◌∷◌, ◌++◌, length, Option, Some, None, IsSome, sum_by, if◌then◌else◌}
-use Rattle.in_flight.specs.block_counts.Counts.{blocks_for}
 use Rattle.in_flight.specs.pm_model.Powers.{is_on, Supply}
 use Rattle.in_flight.specs.layout_model.Places.{reserve}
 use Rattle.in_flight.specs.k_journal.Commits.{TakesAStep}
@@ -11,13 +10,16 @@ use Rattle.in_flight.specs.posix_types.declared.call.Who.{Who}
 use Rattle.in_flight.specs.posix_types.declared.item.Item.{Item}
 use Rattle.in_flight.specs.posix_types.declared.reply.Reply.{Reply}
 use Rattle.in_flight.specs.layout_model.declared.lines.Draft.{Draft}
+use Rattle.in_flight.specs.block_counts.Counts.{blocks_for, chains_for}
+use Rattle.file_calls.specs.extent_model.Extents.{disk_at}
+use Rattle.file_calls.specs.live_step_laws.world_write_laws.HolesLaws.{KeepsLine}
 use Rattle.in_flight.specs.posix_tables.declared.open.Description.{Description}
 use Rattle.in_flight.specs.posix_tables.Open.{opened}
 use Rattle.in_flight.specs.posix_laws.Views.{need_of}
 use Rattle.in_flight.specs.posix_tables.Outcomes.{first}
 use Rattle.in_flight.specs.posix_tables.Room.{growth}
 use Rattle.in_flight.specs.posix_spec.FileRows.{content, truncate_rows}
-use Rattle.in_flight.specs.posix_spec.Put.{Put, put_by}
+use Rattle.in_flight.specs.posix_spec.Put.{put_by}
 use Rattle.in_flight.specs.posix_spec.Run.{after_call}
 use Rattle.in_flight.specs.posix_spec.State.{room}
 use Rattle.in_flight.specs.posix_spec.Step.{step}
@@ -30,8 +32,9 @@ use Rattle.in_flight.specs.live_model.Jobs.{SpellCall}
 use Rattle.in_flight.specs.write_jobs.Jobs.{blocks_of, FilledView, JobView}
 use Rattle.write_end.specs.Blocks.{AreBlocksOut}
 use Rattle.world_view_laws.specs.declared.views.over.Over.{Over}
-use Rattle.world_view_laws.specs.Holes.{holes_of}
-use Rattle.world_view_laws.specs.Views.{Disk, files_out, inode_on, next_of, state_of, WorldView}
+use Rattle.write_plan.specs.Plans.{placed_at, staged_run}
+use Rattle.world_view_laws.specs.Holes.{file_of, holes_of, is_absent}
+use Rattle.world_view_laws.specs.Views.{Disk, files_out, inode_on, map_on, next_of, state_of, WorldView}
 
 -- ---- jobs that are out
 
@@ -62,10 +65,6 @@ OthersStay old new who =
 
 -- ---- what a call needs, and what there is
 
--- how many blocks the plan of the call stages: whole ones, from that of its first byte to that of its last one
-abbrev pub staged_by : Put → ℕ
-staged_by put = blocks_for (put.place + length put.bytes) - put.place / 4096
-
 -- how many blocks a call needs that is logged, or a `truncate` that no row refuses
 abbrev pub IsNeed : WorldView → Who → Call → ℕ → Type 0
 IsNeed w who (Call.Truncate h size) need = (first (truncate_rows (state_of w) who h size) ≡ None) × (need ≡ growth (length (content (state_of w) who h)) size)
@@ -84,21 +83,21 @@ abbrev pub wanted_by : WorldView → ℕ
 wanted_by w = length w.disk.staging.out + reserve w.geometry - 2
 
 -- so many have to be free where an empty staging file is to be given the blocks of the plan: these, those that are wanted beside, and one
-abbrev pub IsStagingNeed : WorldView → Option Put → ℕ → Type 0
+abbrev pub IsStagingNeed : WorldView → Option (ℕ × ℕ) → ℕ → Type 0
 IsStagingNeed w None need = ⊥
-IsStagingNeed w (Some put) need = need ≡ staged_by put + wanted_by w + 1
+IsStagingNeed w (Some run) need = need ≡ run.1 + wanted_by w + 1
 
 -- no run of free blocks of a staging file is as long as the plan, or too few blocks are free for the runs that are out
-abbrev pub HasNoRun : WorldView → Option Put → Type 0
+abbrev pub HasNoRun : WorldView → Option (ℕ × ℕ) → Type 0
 HasNoRun w None = ⊥
-HasNoRun w (Some put) = (w.disk.free < wanted_by w) ⊎ HasNoFreeRun w.disk.staging (staged_by put)
+HasNoRun w (Some run) = (w.disk.free < wanted_by w) ⊎ HasNoFreeRun w.disk.staging run.1
 
 -- Or the jobs leave enough, but its staging has no room for them: it has no run, and too few blocks are free to give an empty staging file
 -- its own; where none is empty, there are none for that.
 pub record LacksStaging (w : WorldView) (who : Who) (call : Call) (need left : ℕ) : Type 0 where
   pub beside : (n m : ℕ) → ¬ LacksBeside w who call n m
-  pub need_is : IsStagingNeed w (put_by (state_of w) who call) need
-  pub no_run : HasNoRun w (put_by (state_of w) who call)
+  pub need_is : IsStagingNeed w (staged_run (state_of w) (put_by (state_of w) who call)) need
+  pub no_run : HasNoRun w (staged_run (state_of w) (put_by (state_of w) who call))
   pub left_is : left ≡ (if has_empty w.disk.staging then w.disk.free else 0)
   pub lacks : left < need
 
@@ -112,20 +111,43 @@ pub record LacksHoles (w : WorldView) (who : Who) (call : Call) (need left : ℕ
   pub left_is : left ≡ w.disk.free
   pub lacks : left < need
 
--- THE HOLES OF ITS FILE ARE FILLED, if its mode writes in place: only cells, maps with the lines of their inodes, and what is free differ
--- from what the World has. Strict mode fills none.
-pub record HasFilled (w : WorldView) (disk : Disk) : Type 0 where
-  pub rest : disk ≡ record w.disk { cells = disk.cells; inodes = disk.inodes; maps = disk.maps; free = disk.free }
-  pub none : w.start.mode ≡ Mode.Strict → disk ≡ w.disk
-
 -- the World with this below the calls
 abbrev pub with_disk : WorldView → Disk → WorldView
 with_disk w disk = record w { disk = disk }
 
--- WHY IT FINDS NO SPACE: only the jobs that are out leave too little; or its holes cannot be filled; or with its holes filled the staging has
--- no room.
+-- THE BLOCK IS ABSENT, one of those of this file that the call writes in place.
+pub record IsAbsentOf (w : WorldView) (who : Who) (call : Call) (ino block : ℕ) : Type 0 where
+  pub own : file_of w who call ≡ Some ino
+  pub range : ℕ × ℕ
+  pub placed : placed_at (state_of w) (put_by (state_of w) who call) ≡ Some range
+  pub from : range.0 / 4096 ≤ block
+  pub below : block < blocks_for range.1
+  pub absent : is_absent w.start.mode w.disk ino block ≡ true
+
+-- THE HOLES OF ITS FILE ARE FILLED. A call that has none leaves all as it is; of one that has, none is left. Only cells, the map of its file with
+-- the line of the inode, and what is free differ; all other files keep lines and maps; each block that was mapped is where it was, and each that is
+-- mapped now was, or was absent where the call writes in place; and of the free blocks as many are gone as were absent, and what the chain has more.
+pub record HasFilled (w : WorldView) (who : Who) (call : Call) (disk : Disk) : Type 0 where
+  pub rest : disk ≡ record w.disk { cells = disk.cells; inodes = disk.inodes; maps = disk.maps; free = disk.free }
+  pub none : holes_of w who call ≡ 0 → disk ≡ w.disk
+  pub filled : holes_of (with_disk w disk) who call ≡ 0
+  pub lines : (ino : ℕ) → KeepsLine (inode_on w.disk ino) (inode_on disk ino)
+  pub others : (ino : ℕ) → file_of w who call ≢ Some ino → (inode_on disk ino ≡ inode_on w.disk ino) × (map_on disk ino ≡ map_on w.disk ino)
+  pub kept : (ino block b : ℕ) → disk_at (map_on w.disk ino) block ≡ Some b → disk_at (map_on disk ino) block ≡ Some b
+  pub new : (ino block b : ℕ) → disk_at (map_on disk ino) block ≡ Some b → (disk_at (map_on w.disk ino) block ≡ Some b) ⊎ IsAbsentOf w who call ino block
+  pub free : w.start.mode ≢ Mode.Posix → (ino : ℕ) → file_of w who call ≡ Some ino
+      → disk.free + holes_of w who call + chains_for (length (map_on disk ino)) ≡ w.disk.free + chains_for (length (map_on w.disk ino))
+
+-- Or its holes could be filled; and with them filled, which leaves this disk, the staging has no room.
+pub record LacksRun (w : WorldView) (filled : Disk) (who : Who) (call : Call) (need left : ℕ) : Type 0 where
+  pub whole : (n m : ℕ) → ¬ LacksHoles w who call n m
+  pub holes : HasFilled w who call filled
+  pub staging : LacksStaging (with_disk w filled) who call need left
+
+-- WHY IT FINDS NO SPACE, asked in this order: only the jobs that are out leave too little; or its holes cannot be filled; or with its holes filled the
+-- staging has no room.
 abbrev pub LacksSpace : WorldView → Disk → Who → Call → ℕ → ℕ → Type 0
-LacksSpace w filled who call need left = LacksBeside w who call need left ⊎ (LacksHoles w who call need left ⊎ LacksStaging (with_disk w filled) who call need left)
+LacksSpace w filled who call need left = LacksBeside w who call need left ⊎ (LacksHoles w who call need left ⊎ LacksRun w filled who call need left)
 
 -- ---- the next call
 
@@ -169,9 +191,9 @@ pub record Returns (who : Who) (old new : WorldView) (before after : Supply) : T
   pub spent : ((after_call (state_of old) (who, call)).entries ≡ (state_of old).entries) ⊎ TakesAStep before after
 
 -- the entry is of the blocks of its plan, and of no other
-abbrev pub IsOfPlan : Option Put → Draft → Type 0
+abbrev pub IsOfPlan : Option (ℕ × ℕ) → Draft → Type 0
 IsOfPlan None d = ⊥
-IsOfPlan (Some put) d = (d.file_block ≡ put.place / 4096) × (d.count ≡ staged_by put)
+IsOfPlan (Some run) d = (d.file_block ≡ run.0) × (d.count ≡ run.1)
 
 -- IT IS LOGGED, and there was room for it, with its holes filled; a job is out, the last one, with the blocks of its plan, and no other run
 -- went out; its entry is that of no other job; nothing has returned.
@@ -182,7 +204,7 @@ pub record BeginsJob (who : Who) (old new : WorldView) (after : Supply) (job : J
   pub enough : (need left : ℕ) → ¬ LacksBeside old who call need left
   pub holes : (need left : ℕ) → ¬ LacksHoles old who call need left
   pub middle : Disk
-  pub filled : HasFilled old middle
+  pub filled : HasFilled old who call middle
   pub run : (need left : ℕ) → ¬ LacksStaging (with_disk old middle) who call need left
   pub pending : JobOut
   pub who_is : pending.who ≡ who
@@ -190,7 +212,7 @@ pub record BeginsJob (who : Who) (old new : WorldView) (after : Supply) (job : J
   pub apart : (q : JobOut) → In q old.pending → q.draft ≢ pending.draft
   pub new_is : new ≡ record old { pending = old.pending ++ pending ∷ []; acts = old.acts + 1; disk = new.disk }
   pub tables : new.disk.tables ≡ old.disk.tables
-  pub plan : IsOfPlan (put_by (state_of old) who call) pending.draft
+  pub plan : IsOfPlan (staged_run (state_of old) (put_by (state_of old) who call)) pending.draft
   pub run_is : new.disk.staging.out ≡ old.disk.staging.out ++ reserved_run pending.draft ∷ []
   pub out : IsJobOut new pending job
   pub fresh : job.lost ≡ false
@@ -215,14 +237,13 @@ pub record Waits (who : Who) (old new : WorldView) (before after : Supply) (ino 
 -- ---- the round is over
 
 -- THE ROUND ENDS for want of space, while jobs are out or after calls that returned since it began. These two numbers say why. Its holes
--- are filled where only the staging has no room, and nothing else changed.
+-- are filled where only the staging has no room, and else nothing changed.
 pub record EndsRound (who : Who) (old new : WorldView) (after : Supply) (need left : ℕ) : Type 0 where
   pub call : Call
   pub begins : Begins old who call
   pub cause : LacksSpace old new.disk who call need left
   pub late : (old.pending ≢ []) ⊎ (old.settled < length old.history)
   pub new_is : new ≡ record old { over = Some (Over.Space need left); acts = old.acts + 1; disk = new.disk }
-  pub filled : HasFilled old new.disk
   pub nothing : LacksBeside old who call need left ⊎ LacksHoles old who call need left → new.disk ≡ old.disk
   pub stay : OthersStay old new who
   pub on : is_on after ≡ true

@@ -1,23 +1,24 @@
 -- What the ends of a job leave.
-use Rattle.std.specs.Prelude.{◌≡◌, ◌≢◌, ◌⊎◌, ◌+◌, ℕ, true, false, [], ◌∷◌, ◌++◌, Option, Some, None}
+use Rattle.std.specs.Prelude.{◌≡◌, ◌≢◌, ◌⊎◌, ◌+◌, ℕ, true, false, [], ◌∷◌, ◌++◌, Option, Some, None, slice_index}
 use Rattle.in_flight.specs.pm_model.Powers.{is_on, Supply}
 use Rattle.write_end.specs.oplog_entry.declared.claims.Full.{Full}
 use Rattle.in_flight.specs.list_laws.Members.{In}
 use Rattle.in_flight.specs.staging_files.GivesUp.{IsGivenBack}
 use Rattle.in_flight.specs.live_model.Standing.{JobOut, reserved_run}
 use Rattle.in_flight.specs.live_model.Jobs.{without}
+use Rattle.in_flight.specs.live_model.Overlays.{run_of}
 use Rattle.in_flight.specs.write_jobs.Jobs.{FilledView}
 use Rattle.write_end.specs.Blocks.{AreBlocksHome}
 use Rattle.world_view_laws.specs.declared.views.over.Over.{Over}
 use Rattle.world_view_laws.specs.Begins.{IsFilledOut, item_of, OthersStay}
-use Rattle.world_view_laws.specs.Views.{next_of, WorldView}
+use Rattle.world_view_laws.specs.Views.{next_of, runs_on, WorldView}
 
 -- the job is one of this World, out
 abbrev pub IsOfWorld : WorldView → FilledView → Type 0
 IsOfWorld w job = (p : JobOut) × IsFilledOut w p job
 
 -- IT FINISHES: its call was the next of its caller; its item stands at the end of the history, its pair of slot and entry among the claims,
--- and it is out no more.
+-- and it is out no more. The run of its entry lies over its file, which has its size; other files keep runs and sizes.
 pub record Finishes (slot : ℕ) (p : JobOut) (old new : WorldView) (power : Supply) : Type 0 where
   pub awake : old.lost ≡ false
   pub on : is_on power ≡ true
@@ -30,6 +31,9 @@ pub record Finishes (slot : ℕ) (p : JobOut) (old new : WorldView) (power : Sup
     disk = new.disk;
   }
   pub disk : new.disk ≡ record old.disk { cells = new.disk.cells; tables = new.disk.tables; overlays = new.disk.overlays; sizes = new.disk.sizes }
+  pub others : (ino : ℕ) → ino ≢ p.draft.ino → (runs_on new.disk ino ≡ runs_on old.disk ino) × (slice_index new.disk.sizes ino ≡ slice_index old.disk.sizes ino)
+  pub runs : runs_on new.disk p.draft.ino ≡ runs_on old.disk p.draft.ino ++ run_of p.draft ∷ []
+  pub size : slice_index new.disk.sizes p.draft.ino ≡ p.draft.size
   pub stay : OthersStay old new p.who
 
 -- the blocks of other jobs that are at home stay there

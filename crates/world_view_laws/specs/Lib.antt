@@ -9,10 +9,10 @@ pub mod Acts
 pub mod Starts
 pub mod Handed
 pub mod Laws
-pub mod Puts
 pub use Rattle.eof_laws.specs.block_io as block_io
 pub use Rattle.write_end.specs.write_jobs as write_jobs
 pub use Rattle.write_end.specs as write_end
+pub use Rattle.write_plan.specs as write_plan
 pub use Rattle.in_flight.specs.crash_spec
 pub use Rattle.eof_laws.specs.image_model
 pub use Rattle.file_calls.specs.eof_laws

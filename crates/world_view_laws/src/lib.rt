@@ -9,7 +9,7 @@
 //! `Disk` shows what is free and what the staging keeps, since only these say why a round ends. Blocks that
 //! came home after a loss stay (`HomesStay`).
 //!
-//! Stands on `file_calls`, `write_end`, `file_publish`, `in_flight` and `eof_laws`.
+//! Stands on `file_calls`, `write_end`, `write_plan`, `file_publish`, `in_flight` and `eof_laws`.
 #![tactic(auto)]
 
 mod turns;

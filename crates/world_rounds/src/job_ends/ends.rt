@@ -2,7 +2,7 @@
 ghost use Rattle.std.specs.Prelude.{◌≡◌, false, true, length};
 ghost use Rattle.world_parts.specs.pm_model.Powers.{is_on, Supply};
 ghost use Rattle.world_parts.specs.in_flight.live_model.Standing as standing;
-ghost use Rattle.world_parts.specs.world_view_laws.Puts.{put_bytes_of};
+ghost use Rattle.world_parts.specs.in_flight.world_model.Jobs.{put_bytes_of};
 ghost use Rattle.world_parts.specs.world_view_laws.Begins.{IsFilledOut};
 ghost use Rattle.world_parts.specs.world_view_laws.Jobs.{over_by, Finishes, GivesUp, IsOfWorld, LosesFinish};
 ghost use Rattle.world_parts.specs.Seen.{seen, IsKept};

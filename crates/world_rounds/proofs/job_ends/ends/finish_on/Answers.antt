@@ -45,7 +45,7 @@ returns-clause-finished c q is power on =
     let same : view ≡ q = c.pending.view_is ∙ taken_is c.args.p.now c.requires.kept c.requires.awake c.requires.out c.args.job q is c.in-Some.pending taken.0 (taken.1 ∙ c.who.ensures) in
     let left = c.in-Some.ensures.left ∙ ap (λ (w : Who). without w c.args.p.now.pending.items) c.who.ensures in
     let replied = c.answer-outcome.ensures ∙ ap (λ (n : ℕ). answer (Reply.Count n)) c.put_count.ensures in
-    finished_so c.args.p.now c.requires.kept c.requires.awake c.requires.out c.args.job q is c.finished_writes_end_with_their_files.ensures.finished c.args.slot view same c.answer-outcome.result replied c.finish_write.new.k c.finish_write.new.tables c.finish_write.new.files c.finish_write.new.claims c.take_job.new.pending left c.finish_write.ensures.same c.finish_write.ensures.claims c.finish_write.ensures.capacity c.finish_write.ensures.leaves c.add.new.p c.add.ensures power on
+    finished_so c.args.p.now c.requires.kept c.requires.awake c.requires.out c.args.job q is c.finished_writes_end_with_their_files.ensures.finished c.args.slot view same c.answer-outcome.result replied c.finish_write.new.k c.finish_write.new.tables c.finish_write.new.files c.finish_write.new.claims c.take_job.new.pending left c.finish_write.ensures.same c.finish_write.ensures.claims c.finish_write.ensures.capacity c.finish_write.ensures.leaves c.add.new.p c.add.ensures c.finish_write.ensures.lays power on
 
 pub finish_write-requires-clause-room : goal.finish_write-requires-clause-room
 finish_write-requires-clause-room c = room_for_claim c.args.p.now c.requires.kept c.requires.awake c.requires.out c.args.job c.requires.job.0 c.requires.job.1

@@ -172,20 +172,22 @@ fn make_both(
     Err(RowError::Unlike)
 }
 
-// Likewise; where the call was made, the device is checked and opened anew.
+// Likewise, unless so many calls were made as are wanted; where the call was made, the device is checked and opened anew, and the
+// call is counted.
 fn step(
     alloc: Global,
     mut k: KSplit,
     model: &mut Model,
     draws: &mut Draws,
-) -> Result<(KSplit, bool), RowError>
+    count: u32,
+) -> Result<(KSplit, u32), RowError>
     requires { IsFresh k }
     ensures { IfOk result (λ after. IsFresh after.0) }
 {
-    if !make_both(alloc, &mut k, model, draws)? {
-        return Ok((k, false));
+    if count >= CALLS || !make_both(alloc, &mut k, model, draws)? {
+        return Ok((k, count));
     }
-    Ok((reopened(alloc, k)?, true))
+    Ok((reopened(alloc, k)?, count + 1))
 }
 
 // Makes so many calls on both, and answers how many it made: fewer where too few of those that are
@@ -196,11 +198,9 @@ fn run_both(alloc: Global) -> Result<u32, RowError> {
     let mut k = begun(alloc, BLOCKS)?;
     let mut count: u32 = 0;
     for _ in 0..20 * CALLS {
-        if count < CALLS {
-            let (after, is_made) = step(alloc, k, &mut model, &mut draws)?;
-            k = after;
-            count = count.saturating_add(u32::from(is_made));
-        }
+        let (after, counted) = step(alloc, k, &mut model, &mut draws, count)?;
+        k = after;
+        count = counted;
     }
     Ok(count)
 }

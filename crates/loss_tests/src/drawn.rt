@@ -6,7 +6,6 @@
 use crate::drawing::{drawn_changes, drawn_script};
 use split_tables::{Case, Stops, is_permitted};
 use std::alloc::Global;
-use std::process::Abort;
 use std::test::Fail;
 use test_kit::{Draws, RowError};
 
@@ -29,42 +28,47 @@ fn first_loss(alloc: Global, case: &Case, draws: &mut Draws) -> Result<Option<St
     Ok(None)
 }
 
-// Asserts that the script of a seed goes as the model says, and that its losses are permitted.
-fn assert_seed(rt: &(impl Abort + AllocGlobal), seed: u64) -> Result<(), RowError> {
-    let alloc = rt.alloc();
+// What is wrong with a script and its losses.
+fn fault_of(alloc: Global, case: &Case, draws: &mut Draws) -> Result<Option<String>, RowError> {
+    if !case.runs_as_told(alloc)? {
+        return Ok(Some("the run answers otherwise".to_string(alloc)?));
+    }
+    first_loss(alloc, case, draws)
+}
+
+// What is wrong with the script of a seed and its losses.
+fn fault_of_seed(alloc: Global, seed: u64) -> Result<Option<String>, RowError> {
     let mut draws = Draws::new(seed);
     let script = drawn_script(alloc, &mut draws, CALLS)?;
     let case = Case::new(alloc, "strict", "256 64 64 128", script.as_str())?;
-    assert!(rt;
-        case.runs_as_told(alloc)?,
-        "the run answers otherwise than the model"
-    );
-    let loss = first_loss(alloc, &case, &mut draws)?;
-    assert!(rt; loss.is_none(), "forbidden at {loss:?}");
-    Ok(())
+    fault_of(alloc, &case, &mut draws)
+}
+
+// Whether a script goes as the model says, on an image of 64 inode lines.
+fn is_right(alloc: Global, script: &str) -> Result<bool, RowError> {
+    let case = Case::new(alloc, "strict", "64 4 64 128", script)?;
+    case.runs_as_told(alloc)
 }
 
 #[test]
 fn losses_of_a_drawn_script(rt: HostRuntime) -> Result<(), Fail> {
-    assert_seed(&rt, 20_261_128)?;
+    let fault = fault_of_seed(rt.alloc(), 20_261_128)?;
+    assert!(rt; fault.is_none(), "{fault:?}");
     Ok(())
 }
 
 #[test]
 fn losses_of_another_drawn_script(rt: HostRuntime) -> Result<(), Fail> {
-    assert_seed(&rt, 7)?;
+    let fault = fault_of_seed(rt.alloc(), 7)?;
+    assert!(rt; fault.is_none(), "{fault:?}");
     Ok(())
 }
 
 // A thousand changes of names on an image of 64 inode lines, which run out now and then.
 #[test]
 fn drawn_changes_of_names(rt: HostRuntime) -> Result<(), Fail> {
-    let alloc = rt.alloc();
-    let script = drawn_changes(alloc, &mut Draws::new(20_261_127), 1000)?;
-    let case = Case::new(alloc, "strict", "64 4 64 128", script.as_str())?;
-    assert!(rt;
-        case.runs_as_told(alloc)?,
-        "the run answers otherwise than the model"
-    );
+    let script = drawn_changes(rt.alloc(), &mut Draws::new(20_261_127), 1000)?;
+    let is_right = is_right(rt.alloc(), script.as_str())?;
+    assert!(rt; is_right, "the run answers otherwise than the model");
     Ok(())
 }

@@ -123,14 +123,31 @@ fn fault_of_cuts(alloc: Global, case: &Case, order: u32) -> Result<Option<String
     Ok(None)
 }
 
+// A script with an order.
+fn case_of(alloc: Global, script: &str, words: String) -> Result<Case, RowError> {
+    Case::ordered(alloc, "strict", IMAGE, script, words.as_str())
+}
+
+// What is wrong with the run of a script.
+fn fault_of_run(alloc: Global, case: &Case) -> Result<Option<String>, RowError> {
+    if case.runs_as_told(alloc)? {
+        return Ok(None);
+    }
+    Ok(Some("the run answers otherwise".to_string(alloc)?))
+}
+
+// What is wrong with the run of an order, or with its losses.
+fn fault_of_all(alloc: Global, case: &Case, order: u32) -> Result<Option<String>, RowError> {
+    if let Some(fault) = fault_of_run(alloc, case)? {
+        return Ok(Some(fault));
+    }
+    fault_of_cuts(alloc, case, order)
+}
+
 // What is wrong with an order.
 fn fault_of_order(alloc: Global, order: u32) -> Result<Option<String>, RowError> {
-    let words = words_of(alloc, order)?;
-    let case = Case::ordered(alloc, "strict", IMAGE, TWO_FILES, words.as_str())?;
-    if !case.runs_as_told(alloc)? {
-        return Ok(Some("the run answers otherwise".to_string(alloc)?));
-    }
-    fault_of_cuts(alloc, &case, order)
+    let case = case_of(alloc, TWO_FILES, words_of(alloc, order)?)?;
+    fault_of_all(alloc, &case, order)
 }
 
 // Asserts that a part of the 924 orders goes right.
@@ -250,21 +267,29 @@ fn is_left_of_turns(
     Ok(returned == all && is_whole && is_right(is_there, stage as u32, choice))
 }
 
-// What is wrong with an order of the four writes.
-fn fault_of_turns(alloc: Global, turns: &[u32; 4]) -> Result<Option<String>, RowError> {
-    let words = words_of_turns(alloc, turns)?;
-    let case = Case::ordered(alloc, "strict", IMAGE, ONE_FILE, words.as_str())?;
-    if !case.runs_as_told(alloc)? {
-        return Ok(Some("the run answers otherwise".to_string(alloc)?));
+// What is wrong with the run of an order of the four writes, or with its losses.
+fn fault_of_all_turns(
+    alloc: Global,
+    case: &Case,
+    turns: &[u32; 4],
+) -> Result<Option<String>, RowError> {
+    if let Some(fault) = fault_of_run(alloc, case)? {
+        return Ok(Some(fault));
     }
     for events in 0..25 {
         for choice in CHOICES {
-            if !is_left_of_turns(alloc, &case, turns, events, choice)? {
-                return Ok(Some(format!(in alloc; "{words} cut {events} choose {choice}")?));
+            if !is_left_of_turns(alloc, case, turns, events, choice)? {
+                return Ok(Some(format!(in alloc; "cut {events} choose {choice}")?));
             }
         }
     }
     Ok(None)
+}
+
+// What is wrong with an order of the four writes.
+fn fault_of_turns(alloc: Global, turns: &[u32; 4]) -> Result<Option<String>, RowError> {
+    let case = case_of(alloc, ONE_FILE, words_of_turns(alloc, turns)?)?;
+    fault_of_all_turns(alloc, &case, turns)
 }
 
 #[test]

@@ -75,16 +75,26 @@ close h
 // Every how many steps the power goes: 8 times 13. All stops that are 13 apart are tried by `tools/threads.py`.
 const EVERY: u64 = 104;
 
-// What is wrong with the run of a seed. Its first loss is behind the set-up.
-fn fault_of_seed(alloc: Global, seed: u64) -> Result<Option<String>, RowError> {
+// The script by a seed.
+fn case_of(alloc: Global, seed: u64) -> Result<Case, RowError> {
     let order = format!(in alloc; "seed {seed}")?;
-    let case = Case::ordered(alloc, "strict", "64 4 16 16", SCRIPT, order.as_str())?;
+    Case::ordered(alloc, "strict", "64 4 16 16", SCRIPT, order.as_str())
+}
+
+// What is wrong with a run or its losses, of which the first one is behind the set-up.
+fn fault_of(alloc: Global, case: &Case, seed: u64) -> Result<Option<String>, RowError> {
     if case.calls() != 51 || !case.runs_as_told(alloc)? {
         return Ok(Some("the run answers otherwise".to_string(alloc)?));
     }
     let first = seed.saturating_mul(13) % EVERY;
-    let stops = Stops::of_all(alloc, &case, first.saturating_add(18_600), EVERY)?;
-    forbidden_in_turn(alloc, &case, &stops)
+    let stops = Stops::of_all(alloc, case, first.saturating_add(18_600), EVERY)?;
+    forbidden_in_turn(alloc, case, &stops)
+}
+
+// What is wrong with the run of a seed.
+fn fault_of_seed(alloc: Global, seed: u64) -> Result<Option<String>, RowError> {
+    let case = case_of(alloc, seed)?;
+    fault_of(alloc, &case, seed)
 }
 
 // Asserts that the runs of these seeds go right.

@@ -18,4 +18,5 @@ rows =
     ∷ codes "open a /f wc\nwrite a 78*131072\nwrite a 78*131072\n"
     ∷ codes "open a /f rwc\nwrite a 61*5000\ntruncate a 10\ntruncate a 5000\n"
     ∷ codes "frob /a\n"
+    ∷ codes "mkdir /d\nopen w /d/h wc\nwrite w 68656c6c6f\nclose w\nopen a /d/f wc\ndup a b\nclose a\nrename /d/f /d/g\nstat /d/g\nunlink /d/g\nlist /d\nmkdir /d/e\n"
     ∷ []

@@ -3,7 +3,8 @@ ghost use Rattle.std.specs.Prelude.{◌≡◌, map};
 ghost use Rattle.split_cases.specs.Rows.{rows};
 
 /// The scripts of the worked runs, whose replies and trees the tests of the top call know: no call, names, a write that is read
-/// back, a hole in the log, a new lap of it, an overwrite over the border of two blocks, and others.
+/// back, a hole in the log, a new lap of it, an overwrite over the border of two blocks, and others. The last one is that of
+/// the program's stored run.
 pub fn rows() -> &'static [&'static str]
     ensures { map (λ row. row.now) result.now ≡ rows }
 {
@@ -23,5 +24,6 @@ pub fn rows() -> &'static [&'static str]
         "open a /f wc\nwrite a 78*131072\nwrite a 78*131072\n",
         "open a /f rwc\nwrite a 61*5000\ntruncate a 10\ntruncate a 5000\n",
         "frob /a\n",
+        "mkdir /d\nopen w /d/h wc\nwrite w 68656c6c6f\nclose w\nopen a /d/f wc\ndup a b\nclose a\nrename /d/f /d/g\nstat /d/g\nunlink /d/g\nlist /d\nmkdir /d/e\n",
     ]
 }

@@ -53,6 +53,30 @@ fn course_of(alloc: Global, case: &Case) -> Result<Vec<(Who, Call)>, RowError> {
     }
 }
 
+// Does a call of the model: its item.
+fn item_of(items: &[Item], state: &mut State, who: Who, call: Call) -> Result<Item, RowError> {
+    let outcome = state.apply(who, &call)?;
+    Ok(Item {
+        who,
+        index: count_of(items, who),
+        call,
+        reply: outcome.reply,
+        room: outcome.room,
+    })
+}
+
+// The text of the last item.
+fn last_line(alloc: Global, items: &[Item]) -> Result<String, RowError> {
+    let from = items.len().saturating_sub(1);
+    shown_items(alloc, items.get(from..).unwrap_or(&[]))
+}
+
+// The text of a state's tree.
+fn tree_text(alloc: Global, state: &State) -> Result<String, RowError> {
+    let tree = state.tree()?;
+    shown_tree(alloc, &tree)
+}
+
 // Does a call of the model, and adds its item and its texts.
 fn add_call(
     alloc: Global,
@@ -61,22 +85,12 @@ fn add_call(
     who: Who,
     call: Call,
 ) -> Result<(), RowError> {
-    let outcome = state.apply(who, &call)?;
-    let index = count_of(&case.items, who);
-    let item = Item {
-        who,
-        index,
-        call,
-        reply: outcome.reply,
-        room: outcome.room,
-    };
-    let mut one = Vec::new(alloc);
-    one.push(item)?;
-    case.lines.push(shown_items(alloc, &one)?)?;
-    case.trees.push(shown_tree(alloc, &state.tree()?)?)?;
-    if let Some(item) = one.pop() {
-        case.items.push(item)?;
-    }
+    let item = item_of(&case.items, state, who, call)?;
+    case.items.push(item)?;
+    let line = last_line(alloc, &case.items)?;
+    case.lines.push(line)?;
+    let tree = tree_text(alloc, state)?;
+    case.trees.push(tree)?;
     Ok(())
 }
 
@@ -113,12 +127,24 @@ fn add_calls(
     Ok(())
 }
 
+// Does the calls of the case from this state on.
+fn add_course(alloc: Global, case: &mut Case, state: &mut State) -> Result<(), RowError> {
+    let calls = course_of(alloc, case)?;
+    add_calls(alloc, case, state, calls)
+}
+
 // Says what the model says of the script, from this tree on.
 fn tell_from(alloc: Global, case: &mut Case, root: &Tree) -> Result<(), RowError> {
-    case.trees.push(shown_tree(alloc, root)?)?;
-    let calls = course_of(alloc, case)?;
+    let tree = shown_tree(alloc, root)?;
+    case.trees.push(tree)?;
     let mut state = State::open(alloc, root, case.image.shape, case.mode)?;
-    add_calls(alloc, case, &mut state, calls)
+    add_course(alloc, case, &mut state)
+}
+
+// Says what the model says of the script.
+fn tell(alloc: Global, case: &mut Case) -> Result<(), RowError> {
+    let root = root_alone(alloc)?;
+    tell_from(alloc, case, &root)
 }
 
 impl Case {
@@ -138,9 +164,8 @@ impl Case {
         order: &str,
     ) -> Result<Case, RowError> {
         hold_memory(alloc)?;
-        let root = root_alone(alloc)?;
         let mut case = untold(alloc, mode, numbers, script, order)?;
-        tell_from(alloc, &mut case, &root)?;
+        tell(alloc, &mut case)?;
         Ok(case)
     }
 

@@ -151,6 +151,27 @@ fn add_script(told: &mut Told) -> Result<(), RowError> {
     Ok(())
 }
 
+// Adds what a line of a row says.
+fn add_told(alloc: Global, told: &mut Told, line: &str) -> Result<(), RowError> {
+    match asked(line) {
+        None => {}
+        Some(("tree", entries)) => {
+            let tree = printed_lines(alloc, entries)?;
+            told.trees.push((told.calls, tree))?;
+        }
+        Some((call, _reply)) => add_call(alloc, told, call, line)?,
+    }
+    Ok(())
+}
+
+// Adds what the lines of a row say.
+fn add_lines(alloc: Global, told: &mut Told, row: &str) -> Result<(), RowError> {
+    for line in row.lines() {
+        add_told(alloc, told, line)?;
+    }
+    add_script(told)
+}
+
 // What the lines of a row say.
 pub(crate) fn told_by(alloc: Global, row: &str) -> Result<Told, RowError> {
     let mut told = Told {
@@ -161,15 +182,6 @@ pub(crate) fn told_by(alloc: Global, row: &str) -> Result<Told, RowError> {
         setup: no_lines(alloc),
         threads: Vec::new(alloc),
     };
-    for line in row.lines() {
-        match asked(line) {
-            None => {}
-            Some(("tree", entries)) => told
-                .trees
-                .push((told.calls, printed_lines(alloc, entries)?))?,
-            Some((call, _reply)) => add_call(alloc, &mut told, call, line)?,
-        }
-    }
-    add_script(&mut told)?;
+    add_lines(alloc, &mut told, row)?;
     Ok(told)
 }

@@ -1,9 +1,9 @@
 //! Images and scripts through the top call, in memory.
 use crate::cases::Case;
-use crate::commands::{command, words_of};
 use crate::modes::word_of;
 use command_line::Status;
 use outside::{Files, MemFiles, MemSink};
+use split_sessions::{command, words_of};
 use std::alloc::{AllocError, Global};
 use test_kit::RowError;
 
@@ -71,11 +71,16 @@ pub(crate) fn printed(alloc: Global, case: &Case, options: &[&str]) -> Result<Ve
     Ok(output)
 }
 
+// The tree of the image that is kept.
+fn kept_tree(alloc: Global, files: &mut MemFiles) -> Result<Vec<u8>, RowError> {
+    let words = words_of(alloc, &["tree", "H"])?;
+    output_of(alloc, files, &words)
+}
+
 /// What the script of a case prints, and then the tree of the image that it leaves.
 pub(crate) fn kept(alloc: Global, case: &Case) -> Result<(Vec<u8>, Vec<u8>), RowError> {
     let (output, mut files) = ran(alloc, case, &["keep", "H"])?;
-    let words = words_of(alloc, &["tree", "H"])?;
-    let tree = output_of(alloc, &mut files, &words)?;
+    let tree = kept_tree(alloc, &mut files)?;
     Ok((output, tree))
 }
 

@@ -35,29 +35,43 @@ fn stops_of(alloc: Global, losses: &Losses, case: &Case) -> Result<Stops, RowErr
     })
 }
 
-// What is wrong with the losses of a row.
-fn fault_told(alloc: Global, losses: &Losses, case: &Case) -> Result<Option<String>, RowError> {
-    if losses.every > 0 {
-        let stops = stops_of(alloc, losses, case)?;
-        let fault = fault_of(alloc, case, &stops)?;
-        if fault.is_some() {
-            return Ok(fault);
-        }
+// What is wrong with the losses at steps so many apart, where there are some.
+fn fault_apart(alloc: Global, losses: &Losses, case: &Case) -> Result<Option<String>, RowError> {
+    if losses.every == 0 {
+        return Ok(None);
     }
-    if losses.cuts > 0 {
-        let fault = fault_of(alloc, case, &Stops::of_events(0, losses.cuts))?;
-        if fault.is_some() {
-            return Ok(fault);
-        }
+    let stops = stops_of(alloc, losses, case)?;
+    fault_of(alloc, case, &stops)
+}
+
+// What is wrong with the losses behind events, where there are some.
+fn fault_at_cuts(alloc: Global, losses: &Losses, case: &Case) -> Result<Option<String>, RowError> {
+    if losses.cuts == 0 {
+        return Ok(None);
     }
-    for call in &losses.each {
+    fault_of(alloc, case, &Stops::of_events(0, losses.cuts))
+}
+
+// What is wrong with the losses at each step of these calls.
+fn fault_in_calls(alloc: Global, each: &[u64], case: &Case) -> Result<Option<String>, RowError> {
+    for call in each {
         let stops = Stops::of_call(alloc, case, *call as usize)?;
-        let fault = fault_of(alloc, case, &stops)?;
-        if fault.is_some() {
-            return Ok(fault);
+        if let Some(fault) = fault_of(alloc, case, &stops)? {
+            return Ok(Some(fault));
         }
     }
     Ok(None)
+}
+
+// What is wrong with the losses of a row.
+fn fault_told(alloc: Global, losses: &Losses, case: &Case) -> Result<Option<String>, RowError> {
+    if let Some(fault) = fault_apart(alloc, losses, case)? {
+        return Ok(Some(fault));
+    }
+    if let Some(fault) = fault_at_cuts(alloc, losses, case)? {
+        return Ok(Some(fault));
+    }
+    fault_in_calls(alloc, &losses.each, case)
 }
 
 // The words of a command line that say in which order the threads of a row are picked.
@@ -70,19 +84,51 @@ fn order_of(alloc: Global, row: &str) -> Result<String, RowError> {
     Ok(String::new(alloc))
 }
 
-// What is wrong with a script in the mode of a word: the model, the run, or a loss.
-fn fault_in(alloc: Global, mode: &str, row: &str, told: &Told) -> Result<Option<String>, RowError> {
-    let image = option(row, "image").unwrap_or("");
-    let order = order_of(alloc, row)?;
-    let case = Case::ordered(alloc, mode, image, told.script.as_str(), order.as_str())?;
-    if !is_as_told(alloc, told, &case)? {
+// What is wrong with a script: the model, the run, or a loss.
+fn case_fault(
+    alloc: Global,
+    row: &str,
+    told: &Told,
+    case: &Case,
+) -> Result<Option<String>, RowError> {
+    if !is_as_told(alloc, told, case)? {
         let text = "the model of the calls answers otherwise";
         return Ok(Some(text.to_string(alloc)?));
     }
     if !case.runs_as_told(alloc)? {
         return Ok(Some("the run answers otherwise".to_string(alloc)?));
     }
-    fault_told(alloc, &losses_of(alloc, row)?, &case)
+    let losses = losses_of(alloc, row)?;
+    fault_told(alloc, &losses, case)
+}
+
+// The script of a row, in the mode of a word.
+fn case_in(alloc: Global, mode: &str, row: &str, script: &str) -> Result<Case, RowError> {
+    let image = option(row, "image").unwrap_or("");
+    let order = order_of(alloc, row)?;
+    Case::ordered(alloc, mode, image, script, order.as_str())
+}
+
+// What is wrong with a script in the mode of a word.
+fn fault_in(alloc: Global, mode: &str, row: &str, told: &Told) -> Result<Option<String>, RowError> {
+    let case = case_in(alloc, mode, row, told.script.as_str())?;
+    case_fault(alloc, row, told, &case)
+}
+
+// What is wrong with the script of a row in the first of its modes in which something is.
+fn told_fault(alloc: Global, row: &str, told: &Told) -> Result<Option<String>, RowError> {
+    for mode in option(row, "modes").unwrap_or("strict").split(' ') {
+        if let Some(fault) = fault_in(alloc, mode, row, told)? {
+            return Ok(Some(format!(in alloc; "{mode}: {fault}")?));
+        }
+    }
+    Ok(None)
+}
+
+// What is wrong with a row.
+fn row_fault(alloc: Global, row: &str) -> Result<Option<String>, RowError> {
+    let told = told_by(alloc, row)?;
+    told_fault(alloc, row, &told)
 }
 
 /// How a script with power losses goes: `ok`, or what is wrong. Its options are `modes MODE ..`, the modes in which it is run,
@@ -95,11 +141,8 @@ fn fault_in(alloc: Global, mode: &str, row: &str, told: &Told) -> Result<Option<
 /// does, and each loss must be permitted, with five choices of what the medium has. Its losses have to lose calls, and where
 /// they are one step apart a choice has to make a difference.
 pub fn losses_told(alloc: Global, row: &str) -> Result<String, RowError> {
-    let told = told_by(alloc, row)?;
-    for mode in option(row, "modes").unwrap_or("strict").split(' ') {
-        if let Some(fault) = fault_in(alloc, mode, row, &told)? {
-            return Ok(format!(in alloc; "{mode}: {fault}")?);
-        }
+    match row_fault(alloc, row)? {
+        Some(fault) => Ok(fault),
+        None => Ok("ok".to_string(alloc)?),
     }
-    Ok("ok".to_string(alloc)?)
 }

@@ -1,4 +1,4 @@
-use Rattle.split_tables.proofs.commands.command.Goals as goal
+use Rattle.split_sessions.proofs.commands.command.Goals as goal
 
 pub returns-clause-usage : goal.returns-clause-usage
 returns-clause-usage c = c.top.ensures.usage

@@ -33,6 +33,17 @@ fn alone(alloc: Global, bytes: &[u8], failing: &str) -> Result<MemFiles, RowErro
     Ok(MemFiles::new(alloc, list, numbers(alloc, failing)?))
 }
 
+// What a command puts over these files and this sink.
+fn told_into(
+    alloc: Global,
+    files: &mut MemFiles,
+    out: &mut MemSink,
+    command: &str,
+) -> Result<Vec<u8>, RowError> {
+    let words = words_of(alloc, command)?;
+    Ok(answer_over(alloc, files, out, &words)?)
+}
+
 // What a command puts over these files and a sink of which these calls fail.
 fn told_over(
     alloc: Global,
@@ -40,9 +51,8 @@ fn told_over(
     puts: &str,
     command: &str,
 ) -> Result<Vec<u8>, RowError> {
-    let words = words_of(alloc, command)?;
-    let out = MemSink::new(alloc, numbers(alloc, puts)?);
-    Ok(answer_over(alloc, files, out, &words)?)
+    let mut out = MemSink::new(alloc, numbers(alloc, puts)?);
+    told_into(alloc, files, &mut out, command)
 }
 
 // What became of the file `S`, which had these bytes.
@@ -53,33 +63,58 @@ fn end_told(alloc: Global, files: &MemFiles, before: &[u8]) -> Result<String, Ro
     Ok(format!(in alloc; "S is {kept}, {length} bytes\n")?)
 }
 
-// `FILES PUTS WORDS`: the command with these words over a file `S` alone, where these calls of the files and of the sink
-// fail, counted from 0. What is told ends with what became of `S`.
-fn told_of_failing(alloc: Global, files: &mut MemFiles, line: &str) -> Result<Vec<u8>, RowError> {
-    let (file_calls, rest) = line.split_once(' ').ok_or(RowError::Misspelled)?;
-    let (puts, command) = rest.split_once(' ').ok_or(RowError::Misspelled)?;
-    let before = files.read(alloc, "S")?;
-    let mut files = alone(alloc, &before, file_calls)?;
-    let mut text = told_over(alloc, &mut files, puts, command)?;
-    let told = end_told(alloc, &files, &before)?;
+// What a command puts over these files and a sink of which these calls fail, and then what became of the file `S`, which had
+// these bytes.
+fn told_with_end(
+    alloc: Global,
+    files: &mut MemFiles,
+    before: &[u8],
+    words: &str,
+) -> Result<Vec<u8>, RowError> {
+    let (puts, command) = words.split_once(' ').ok_or(RowError::Misspelled)?;
+    let mut text = told_over(alloc, files, puts, command)?;
+    let told = end_told(alloc, files, before)?;
     text.extend_from_slice(told.as_bytes())?;
     Ok(text)
 }
 
-// `NAME PLACE COUNT`: so many bytes of a file from that place on, as far as it has them.
-fn bytes_told(alloc: Global, files: &mut MemFiles, line: &str) -> Result<Vec<u8>, RowError> {
-    let bytes = files.read(alloc, word(line, 0))?;
-    let (place, count) = (number(word(line, 1))?, number(word(line, 2))?);
-    let end = bytes.len().min(place.saturating_add(count) as usize);
+// Likewise over a file `S` with these bytes, alone, where these calls of the files fail.
+fn told_alone(
+    alloc: Global,
+    before: &[u8],
+    file_calls: &str,
+    words: &str,
+) -> Result<Vec<u8>, RowError> {
+    let mut files = alone(alloc, before, file_calls)?;
+    told_with_end(alloc, &mut files, before, words)
+}
+
+// `FILES PUTS WORDS`: the command with these words over a file `S` alone, where these calls of the files and of the sink
+// fail, counted from 0. What is told ends with what became of `S`.
+fn told_of_failing(alloc: Global, files: &mut MemFiles, line: &str) -> Result<Vec<u8>, RowError> {
+    let (file_calls, rest) = line.split_once(' ').ok_or(RowError::Misspelled)?;
+    let before = files.read(alloc, "S")?;
+    told_alone(alloc, &before, file_calls, rest)
+}
+
+// A line with bytes as numbers.
+fn numbers_told(alloc: Global, bytes: &[u8]) -> Result<Vec<u8>, RowError> {
     let mut text = String::new(alloc);
-    for byte in bytes.get(place as usize..end).unwrap_or(&[]) {
-        if !text.is_empty() {
-            text.push(' ')?;
-        }
-        write!(&mut text, "{byte}")?;
+    let mut between = "";
+    for byte in bytes {
+        write!(&mut text, "{between}{byte}")?;
+        between = " ";
     }
     text.push('\n')?;
     Ok(text.into_bytes())
+}
+
+// `NAME PLACE COUNT`: so many bytes of a file from that place on, as far as it has them.
+fn bytes_told(alloc: Global, files: &mut MemFiles, line: &str) -> Result<Vec<u8>, RowError> {
+    let (place, count) = (number(word(line, 1))?, number(word(line, 2))?);
+    let bytes = files.read(alloc, word(line, 0))?;
+    let end = bytes.len().min(place.saturating_add(count) as usize);
+    numbers_told(alloc, bytes.get(place as usize..end).unwrap_or(&[]))
 }
 
 // The name of the image that is damaged.
@@ -136,19 +171,36 @@ fn is_as_wanted(alloc: Global, files: &mut MemFiles, line: &str) -> Result<bool,
     Ok(came == wanted(alloc, files, command, want)?)
 }
 
+// The first line of a session that is answered otherwise.
+fn first_other<'a>(
+    alloc: Global,
+    files: &mut MemFiles,
+    row: &'a str,
+) -> Result<Option<&'a str>, RowError> {
+    for line in row.lines() {
+        if !is_as_wanted(alloc, files, line)? {
+            return Ok(Some(line));
+        }
+    }
+    Ok(None)
+}
+
+// Likewise over files of its own.
+fn other_alone<'a>(alloc: Global, row: &'a str) -> Result<Option<&'a str>, RowError> {
+    let mut files = MemFiles::new(alloc, Vec::new(alloc), Vec::new(alloc));
+    first_other(alloc, &mut files, row)
+}
+
 /// How a session over files of its own goes: `ok`, or the first line that is answered otherwise. A line `COMMAND = ANSWER` has
 /// the words of a command line and what is put, with the text of the status, its lines parted by `; `. So have `bytes NAME PLACE
 /// COUNT`; `failing FILES PUTS COMMAND`, a command over the file `S` alone, where these calls of the files and of the sink fail;
 /// `damage NAME PLACE BYTE .. ; PLACE BYTE ..`, the tree of an image with these bytes, or `same`; and `forged SEED COUNT`, images
 /// that are drawn. A refused image is told as `rule R at P`. The other lines are edits: `copy FROM TO`, `cut NAME LENGTH`,
-/// `set NAME PLACE BYTE ..`, `fill NAME PLACE COUNT BYTE`, `entry NAME PLACE NUMBER ..` (a log entry by its ten numbers) and
-/// `file NAME LINES`.
+/// `set NAME PLACE BYTE ..`, `fill NAME PLACE COUNT BYTE`, `entry NAME PLACE NUMBER ..` (a log entry by its ten numbers),
+/// `file NAME LINES` and `script NAME K` (the script of the worked run K of `split_cases`).
 pub fn session_told(alloc: Global, row: &str) -> Result<String, RowError> {
-    let mut files = MemFiles::new(alloc, Vec::new(alloc), Vec::new(alloc));
-    for line in row.lines() {
-        if !is_as_wanted(alloc, &mut files, line)? {
-            return Ok(format!(in alloc; "answered otherwise: {line}")?);
-        }
+    match other_alone(alloc, row)? {
+        Some(line) => Ok(format!(in alloc; "answered otherwise: {line}")?),
+        None => Ok("ok".to_string(alloc)?),
     }
-    Ok("ok".to_string(alloc)?)
 }

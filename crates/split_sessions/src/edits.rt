@@ -1,6 +1,7 @@
 //! Edits of files in memory, by the lines of a table.
 use crate::entries::put_entry;
 use outside::{Files, MemFiles};
+use split_cases::rows;
 use std::alloc::Global;
 use test_kit::RowError;
 
@@ -99,8 +100,15 @@ fn file(alloc: Global, files: &mut MemFiles, words: &str) -> Result<(), RowError
     Ok(())
 }
 
+// `script NAME K`: the file has the script of the worked run K, counted from 0.
+fn script(files: &mut MemFiles, name: &str, place: &str) -> Result<(), RowError> {
+    let script = rows().get(number(place)?).ok_or(RowError::Misspelled)?;
+    files.replace(name, script.as_bytes())?;
+    Ok(())
+}
+
 // `copy FROM TO`, `cut NAME LENGTH`, `set NAME PLACE BYTE ..`, `fill NAME PLACE COUNT BYTE`, `entry NAME PLACE NUMBER ..`,
-// `file NAME LINE`: whether the line is an edit; it is carried out then.
+// `script NAME K`, `file NAME LINE`: whether the line is an edit; it is carried out then.
 pub(crate) fn was_edit(alloc: Global, files: &mut MemFiles, line: &str) -> Result<bool, RowError> {
     let Some((edit, words)) = line.split_once(" ") else {
         return Ok(false);
@@ -116,6 +124,7 @@ pub(crate) fn was_edit(alloc: Global, files: &mut MemFiles, line: &str) -> Resul
         "set" => set(alloc, files, name, words)?,
         "fill" => fill(alloc, files, name, words)?,
         "entry" => entry(alloc, files, name, words)?,
+        "script" => script(files, name, words)?,
         _ => return Ok(false),
     }
     Ok(true)

@@ -32,8 +32,8 @@ pub fn command(alloc: Global, words: &[String], files: &mut MemFiles, out: &mut 
     top(&(), alloc, words, files, out)
 }
 
-// The words of a command line.
-pub(crate) fn words_of(alloc: Global, words: &[&str]) -> Result<Vec<String>, AllocError> {
+/// The words of a command line.
+pub fn words_of(alloc: Global, words: &[&str]) -> Result<Vec<String>, AllocError> {
     let mut list = Vec::new(alloc);
     for word in words {
         list.push(word.to_string(alloc)?)?;
@@ -41,22 +41,43 @@ pub(crate) fn words_of(alloc: Global, words: &[&str]) -> Result<Vec<String>, All
     Ok(list)
 }
 
+// The bytes of one slice, and then those of another.
+fn joined(alloc: Global, front: &[u8], back: &[u8]) -> Result<Vec<u8>, AllocError> {
+    let mut bytes = Vec::from_slice(alloc, front)?;
+    bytes.extend_from_slice(back)?;
+    Ok(bytes)
+}
+
+// These bytes, and then the text of a status.
+fn with_status(alloc: Global, put: &[u8], status: &Status) -> Result<Vec<u8>, AllocError> {
+    let text = status_text(alloc, status)?;
+    joined(alloc, put, &text)
+}
+
+// What a command puts over these files and this sink, and then the text of its status.
+fn told(
+    alloc: Global,
+    files: &mut MemFiles,
+    out: &mut MemSink,
+    words: &[String],
+) -> Result<Vec<u8>, AllocError> {
+    let status = command(alloc, words, files, out);
+    with_status(alloc, out.bytes(), &status)
+}
+
 /// What a command puts over these files and this sink, and then the text of its status.
 pub fn answer_over(
     alloc: Global,
     files: &mut MemFiles,
-    mut out: MemSink,
+    out: &mut MemSink,
     words: &[&str],
 ) -> Result<Vec<u8>, AllocError> {
     let list = words_of(alloc, words)?;
-    let status = command(alloc, &list, files, &mut out);
-    let mut text = Vec::from_slice(alloc, out.bytes())?;
-    text.extend_from_slice(&status_text(alloc, &status)?)?;
-    Ok(text)
+    told(alloc, files, out, &list)
 }
 
 /// What a command puts over these files, and then the text of its status.
 pub fn answer(alloc: Global, files: &mut MemFiles, words: &[&str]) -> Result<Vec<u8>, AllocError> {
-    let out = MemSink::new(alloc, Vec::new(alloc));
-    answer_over(alloc, files, out, words)
+    let mut out = MemSink::new(alloc, Vec::new(alloc));
+    answer_over(alloc, files, &mut out, words)
 }

@@ -1,0 +1,146 @@
+//! Runs that lose their power, judged with the calls that the machine hands out as unfinished.
+use crate::images::{CHOICES, fresh};
+use command_line::{Options, Status, plain_options};
+use crash_judge::judge;
+use image_layout::Geometry;
+use pm_lines::Choice;
+use posix_spec::{Mode, Shape, root_alone};
+use split_cases::rows;
+use split_tables::{Case, Stops};
+use split_top::{Ran, run_image};
+use std::alloc::{AllocError, Global};
+use std::test::Fail;
+use test_kit::RowError;
+
+const SMALL: &str = "64 4 16 16";
+
+// The place of a worked run among `split_cases::rows`; every how many steps the power goes; and how many calls are unfinished at some of
+// these losses, or more.
+type Row = (usize, u64, usize);
+
+// Without what cuts them. Of the scripts with two threads the threads come in turn.
+const ROWS: [Row; 7] = [
+    // One directory.
+    (1, 1, 1),
+    // A hole in the log.
+    (5, 13, 2),
+    // A new lap.
+    (6, 13, 1),
+    // An overwrite over the border of two blocks.
+    (7, 13, 1),
+    // An unlinked file that is written.
+    (10, 13, 1),
+    // A rename over a busy file.
+    (11, 13, 1),
+    // A truncate, and a file that grows.
+    (13, 13, 1),
+];
+
+// Two writes to one file, which is busy while one of them is out.
+const TWO_WRITES: &str =
+    "setup\nopen a /f wac\nopen b /f wac\nthread\nwrite a 616263\nthread\nwrite b 7879\n";
+
+fn shape() -> Result<Shape, RowError> {
+    match Geometry::checked(64, 4, 16, 16) {
+        Some(geometry) => Ok(geometry.shape()),
+        None => Err(RowError::Misspelled),
+    }
+}
+
+// What a script leaves on an image where the power goes after so many steps.
+fn ran(
+    alloc: Global,
+    image: &[u8],
+    script: &str,
+    steps: u64,
+    choice: Choice,
+) -> Result<Ran, RowError> {
+    let options = Options {
+        stop: Some(steps),
+        choice,
+        ..plain_options(Mode::Strict)
+    };
+    match run_image(
+        alloc,
+        Vec::from_slice(alloc, image)?,
+        script.as_bytes(),
+        &options,
+    ) {
+        Ok(ran) => Ok(ran),
+        Err(Status::NoMemory) => Err(RowError::NoMemory(AllocError)),
+        Err(_) => Err(RowError::NotRun),
+    }
+}
+
+// Whether the mode permits what is left.
+fn is_judged(alloc: Global, ran: &Ran) -> Result<bool, RowError> {
+    let start = root_alone(alloc)?;
+    Ok(judge(
+        alloc,
+        Mode::Strict,
+        shape()?,
+        &start,
+        &ran.history,
+        &ran.unfinished,
+        &ran.tree,
+    )?)
+}
+
+// How many calls are unfinished at most where the power goes after so many steps, with each choice; none where something is left that
+// the mode forbids.
+fn most_at(
+    alloc: Global,
+    image: &[u8],
+    script: &str,
+    steps: u64,
+) -> Result<Option<usize>, RowError> {
+    let mut most: usize = 0;
+    for choice in CHOICES {
+        let ran = ran(alloc, image, script, steps, choice)?;
+        if !is_judged(alloc, &ran)? {
+            return Ok(None);
+        }
+        most = most.max(ran.unfinished.len());
+    }
+    Ok(Some(most))
+}
+
+// How many calls are unfinished at most, at one of the losses of a script, the last of which is at the end of the unmount.
+fn most_of(alloc: Global, script: &str, every: u64) -> Result<Option<usize>, RowError> {
+    let image = fresh(alloc, SMALL)?;
+    let case = Case::new(alloc, "strict", SMALL, script)?;
+    let stops = Stops::of_all(alloc, &case, 0, every)?;
+    let mut most: usize = 0;
+    let mut steps: u64 = 0;
+    for _ in 0..100_000_u64 {
+        if steps > stops.last {
+            return Ok(Some(most));
+        }
+        let Some(count) = most_at(alloc, &image, script, steps)? else {
+            return Ok(None);
+        };
+        most = most.max(count);
+        steps = steps.saturating_add(every);
+    }
+    Err(RowError::NotRun)
+}
+
+#[test]
+fn losses_with_the_calls_of_the_machine(rt: HostRuntime) -> Result<(), Fail> {
+    for (place, every, unfinished) in ROWS {
+        let script = rows().get(place).copied().unwrap_or("");
+        let most = most_of(rt.alloc(), script, every)?;
+        assert!(rt;
+            matches!(most, Some(most) if most >= unfinished),
+            "worked run {place}"
+        );
+    }
+    Ok(())
+}
+
+#[test]
+fn losses_while_a_file_is_busy(rt: HostRuntime) -> Result<(), Fail> {
+    let most = most_of(rt.alloc(), TWO_WRITES, 13)?;
+    assert!(rt; matches!(most, Some(most) if most >= 1));
+    Ok(())
+}

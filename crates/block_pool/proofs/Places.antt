@@ -82,3 +82,7 @@ none_joined words a b c low high p le lt = elim (cases_lt p b) [
 -- in words of ones every bit is set
 pub all_set : (n p : ℕ) → p < 64 * n → is_set (replicate n 18446744073709551615) p ≡ true
 all_set n p lt = ap (λ w. eqb (bit_at w (p % 64)) 1) (get_or-replicate n (p / 64) 18446744073709551615 0 (omega arith)) ∙ ap (λ b. eqb b 1) (bit_at_ones 64 (p % 64) (omega arith))
+
+-- in words of zeros no bit is set
+pub none_set : (n p : ℕ) → p < 64 * n → is_set (replicate n 0) p ≡ false
+none_set n p lt = ap (λ w. eqb (bit_at w (p % 64)) 1) (get_or-replicate n (p / 64) 0 0 (omega arith)) ∙ ap (λ b. eqb b 1) (bit_at-zero (p % 64))

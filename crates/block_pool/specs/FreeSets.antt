@@ -1,6 +1,6 @@
 -- A set of free blocks among `length marks` blocks from `first` on, and what the calls make of it.
 use Rattle.std.specs.Prelude.{◌≡◌, ℕ, ◌+◌, ◌-◌, ◌<◌, ◌≤◌, Bool, true, false, ◌&&◌, ◌==◌, not, nat_le, if◌then◌else◌, List, length, slice_index_or, All, AllPairs, count_by}
-use Rattle.std.specs.List.{list_any}
+use Rattle.std.specs.List.{filter, list_any, range_with_len}
 use Rattle.extent_map.specs.extent_model.declared.extent_words.Extent.{Extent}
 use Rattle.extent_map.specs.extent_model.Extents.{is_within, covers}
 
@@ -19,6 +19,10 @@ is_free_at s block = nat_le s.first block && slice_index_or s.marks (block - s.f
 -- how many blocks are free
 abbrev pub free_count : FreeSet → ℕ
 free_count s = count_by (λ mark. mark) s.marks
+
+-- the free blocks, in rising order
+abbrev pub free_list : FreeSet → List ℕ
+free_list s = filter (is_free_at s) (range_with_len s.first (length s.marks))
 
 -- whether the block is one of the list
 abbrev pub is_among : List ℕ → ℕ → Bool

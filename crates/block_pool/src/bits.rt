@@ -1,5 +1,5 @@
 //! The bits of a slice of words, 64 a word.
-ghost use Rattle.std.specs.Prelude.{◌≡◌, ◌≢◌, ℕ, ◌+◌, ◌*◌, ◌<◌, ◌≤◌, ◌^◌, ◌&&◌, not, true, false, length, IfSome, IfNone};
+ghost use Rattle.std.specs.Prelude.{◌≡◌, ◌≢◌, ℕ, ◌+◌, ◌*◌, ◌<◌, ◌≤◌, ◌^◌, ◌&&◌, not, true, false, length, slice_index, bit_or, IfSome, IfNone};
 ghost use Rattle.extent_map.specs.extent_model.Counts.{count_below};
 ghost use Rattle.extent_map.specs.extent_model.Extents.{is_within};
 ghost use Rattle.block_pool.specs.Bits.{is_set as is_set_lem, NoneSet, IsNext};
@@ -72,5 +72,19 @@ pub(crate) fn clear_run(words: &mut [u64], first: usize, count: usize)
 {
     for place in first..first + count {
         clear(words, place);
+    }
+}
+
+// Sets the bits of the first `count` words that are set in as many other words, and clears these.
+pub(crate) fn move_bits(words: &mut [u64], other: &mut [u64], count: usize)
+    requires words { count ≤ length words.old }
+    requires other { count ≤ length other.old }
+    ensures words { (i : ℕ) → i < count
+        → slice_index words.new i ≡ bit_or (slice_index words.old i) (slice_index other.old i) }
+    ensures none { (i : ℕ) → i < count → slice_index other.new i ≡ 0 }
+{
+    for place in 0..count {
+        words[place] |= other[place];
+        other[place] = 0;
     }
 }

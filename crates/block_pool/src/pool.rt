@@ -1,8 +1,8 @@
 //! The pool itself.
-ghost use Rattle.std.specs.Prelude.{◌≡◌, ℕ, ◌+◌, ◌<◌, ◌^◌, ◌↔◌, false, All, IsTrue, IsNone, IfOk, IfSome, IfNone, OnErr};
-ghost use Rattle.block_pool.specs.FreeSets.{has_block, is_free_at, free_count, LiesWithin, IsUnused, Takes, Gives};
+ghost use Rattle.std.specs.Prelude.{◌≡◌, ℕ, ◌+◌, ◌<◌, ◌^◌, ◌↔◌, ◌||◌, true, false, length, All, IsTrue, IsNone, IfOk, IfSome, IfNone, OnErr};
+ghost use Rattle.block_pool.specs.FreeSets.{has_block, is_free_at, free_count, LiesWithin, SameBlocks, IsUnused, Takes, Gives};
 
-use crate::bits::{count_set, is_set, set};
+use crate::bits::{count_set, is_set, move_bits, set};
 use crate::blocks::{clear_blocks, clear_extents, lowest_blocks};
 use extent_map::Extent;
 use std::alloc::{AllocError, Global};
@@ -42,6 +42,22 @@ impl Pool {
             first,
             count,
             free,
+            words,
+        })
+    }
+
+    /// The pool of `count` blocks from `first` on, of which none is free.
+    pub fn none(alloc: Global, first: u32, count: u32) -> Result<Pool, AllocError>
+        requires { first + count < 2 ^ 32 }
+        ensures first { IfOk result (λ pool. pool.first ≡ first) }
+        ensures count { IfOk result (λ pool. length pool.marks ≡ count) }
+        ensures none { IfOk result (λ pool. (b : ℕ) → is_free_at pool b ≡ false) }
+    {
+        let words = vec![in alloc; 0; count.div_ceil(64) as usize]?;
+        Ok(Pool {
+            first,
+            count,
+            free: 0,
             words,
         })
     }
@@ -91,5 +107,23 @@ impl Pool {
     {
         set(&mut self.words, (block - self.first) as usize);
         self.free += 1;
+    }
+
+    /// Makes free what is free in another pool of the same blocks, where nothing is free then. No
+    /// block is free in both before. It takes no memory.
+    pub fn take_in(&mut self, other: &mut Pool)
+        requires same { SameBlocks self.old other.old }
+        requires apart { (b : ℕ) → is_free_at other.old b ≡ true → is_free_at self.old b ≡ false }
+        ensures same { SameBlocks self.old self.new }
+        ensures free { (b : ℕ) → is_free_at self.new b
+            ≡ (is_free_at self.old b || is_free_at other.old b) }
+        ensures count { free_count self.new ≡ free_count self.old + free_count other.old }
+        ensures other { SameBlocks other.old other.new }
+        ensures none { (b : ℕ) → is_free_at other.new b ≡ false }
+    {
+        let words = self.count.div_ceil(64) as usize;
+        move_bits(&mut self.words, &mut other.words, words);
+        self.free += other.free;
+        other.free = 0;
     }
 }

@@ -1,3 +1,4 @@
+pub mod Laid
 pub mod Puts
 pub mod Replays
 pub mod Views

@@ -1,5 +1,6 @@
 -- What a batch is: the lines that one transaction sets, with their content, no line twice.
-use Rattle.std.specs.Prelude.{◌≡◌, ◌≢◌, ◌≤◌, ◌<◌, ◌==◌, ℕ, Bool, true, List, [], ◌∷◌, length, slice_index_or, if◌then◌else◌}
+use Rattle.std.specs.Prelude.{◌≡◌, ◌≢◌, ◌≤◌, ◌<◌, ◌==◌, ℕ, ◌+◌, Bool, true, List, [], ◌∷◌, ◌++◌, length, map, not, ◌||◌, slice_index_or, if◌then◌else◌}
+use Rattle.std.specs.List.{filter, list_any}
 use Rattle.image_layout.specs.layout_model.Journal.{patched}
 use Rattle.k_journal.specs.declared.batches.Record.{Record}
 use Rattle.pm_lines.specs.pm_model.Words.{Words, word_at}
@@ -51,3 +52,27 @@ pub record HasRoom (b : List Record) (capacity : ℕ) : Type 0 where
   pub most : length b ≤ 128
   pub room : 128 ≤ capacity
   pub distinct : IsDistinct b
+
+-- the lines that the batch sets, in the order in which they came
+abbrev pub lines_of : List Record → List ℕ
+lines_of b = map (λ (e : Record). e.line) b
+
+-- whether the batch sets the line
+abbrev pub has_line : List Record → ℕ → Bool
+has_line b line = list_any (λ l. l == line) (lines_of b)
+
+-- the lines of b that a does not set
+abbrev pub new_lines : List Record → List Record → List ℕ
+new_lines a b = filter (λ line. not (has_line a line)) (lines_of b)
+
+-- how many these are, with one line besides, where neither sets it
+abbrev pub new_with : List Record → List Record → ℕ → ℕ
+new_with a b line = length (new_lines a b) + (if has_line a line || has_line b line then 0 else 1)
+
+-- THE LINES OF b ARE LAID OVER THOSE OF a: c sets the lines of a and, behind them, those of b that a does not set. Where both
+-- set a line it is set as b does.
+pub record AreLaid (a b c : List Record) : Type 0 where
+  pub lines : lines_of c ≡ lines_of a ++ new_lines a b
+  pub count : length c ≡ length a + length (new_lines a b)
+  pub tests : (test : ℕ → Bool) → AllLines test a → AllLines test b → AllLines test c
+  pub meaning : (f : Words) (w : ℕ) → with_batch c f w ≡ with_batch b (with_batch a f) w

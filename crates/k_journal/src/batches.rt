@@ -1,6 +1,6 @@
 //! Batches: the lines that one commit sets, each with its new bytes.
-ghost use Rattle.std.specs.Prelude.{◌≡◌, ◌+◌, ◌<◌, ◌≤◌, ◌==◌, ℕ, Bool, true, [], length, slice_index, IsOk, OnOk, OnErr, IfOk, IfErr, MatchOption};
-ghost use Rattle.k_journal.specs.Batch.{with_batch, with_line_set, AllLines, HasLine, IsDistinct, IsNew, IsFirstPlace};
+ghost use Rattle.std.specs.Prelude.{◌≡◌, ◌+◌, ◌<◌, ◌≤◌, ◌==◌, ◌↔◌, ℕ, Bool, true, [], length, slice_index, IsTrue, IsOk, OnOk, OnErr, IfOk, IfErr, MatchOption};
+ghost use Rattle.k_journal.specs.Batch.{has_line, with_batch, with_line_set, new_lines, new_with, AllLines, AreLaid, HasLine, IsDistinct, IsNew, IsFirstPlace};
 ghost use Rattle.pm_lines.specs.pm_model.Words.{Words, with_line};
 
 use std::alloc::{AllocError, Global};
@@ -117,6 +117,49 @@ impl Batch {
         }
     }
 
+    /// Whether there is room for the lines of another batch beside these: a line that both set is
+    /// one. At most 128 lines fit.
+    pub fn has_room_for(&self, other: &Batch) -> bool
+        ensures { IsTrue result ↔ (length self.now + length (new_lines self.now other.now) ≤ 128) }
+    {
+        new_count(&self.entries, &other.entries) <= MOST_LINES
+    }
+
+    /// Whether there is room for the lines of another batch, and for one line besides: a line that
+    /// is set in both, or in either, is one. At most 128 lines fit.
+    pub fn has_room_with(&self, other: &Batch, line: u64) -> bool
+        ensures { IsTrue result ↔ (length self.now + new_with self.now other.now line ≤ 128) }
+    {
+        let set = sets_line(&self.entries, line) || sets_line(&other.entries, line);
+        let more = if set { 0 } else { 1 };
+        new_count(&self.entries, &other.entries) + more <= MOST_LINES
+    }
+
+    // Sets the lines of entries, of which each is once; there is room for those that are new.
+    fn put_entries(&mut self, entries: &[Record])
+        requires distinct { IsDistinct entries.now }
+        requires room { length self.old + length (new_lines self.old entries.now) ≤ 128 }
+        ensures { AreLaid self.old entries.now self.new }
+    {
+        for entry in entries {
+            match self.put(entry.line, entry.bytes) {
+                Ok(()) => {}
+                Err(_) => unreachable!(),
+            }
+        }
+    }
+
+    /// Lays the lines of another batch over these, where there is room for them. A line that both
+    /// set is set as the other does. The other is empty then. It takes no memory.
+    pub fn lay(&mut self, other: &mut Batch)
+        requires { length self.old + length (new_lines self.old other.old) ≤ 128 }
+        ensures laid { AreLaid self.old other.old self.new }
+        ensures empty { other.new ≡ [] }
+    {
+        self.put_entries(other.entries());
+        other.clear();
+    }
+
     // Its entries, each line once.
     pub(crate) fn entries(&self) -> &[Record]
         ensures entries { result.now ≡ self.now }
@@ -144,4 +187,27 @@ fn place_of(entries: &[Record], line: u64) -> Option<usize>
         }
     }
     None
+}
+
+// Whether one of the entries is of the line.
+fn sets_line(entries: &[Record], line: u64) -> bool
+    ensures { result ≡ has_line entries.now line }
+{
+    place_of(entries, line).is_some()
+}
+
+// How many lines are set in all: those of the entries, and those of the others that are new.
+fn new_count(entries: &[Record], others: &[Record]) -> usize
+    requires few { length entries.now ≤ 128 }
+    requires few_others { length others.now ≤ 128 }
+    ensures count { result ≡ length entries.now + length (new_lines entries.now others.now) }
+    ensures few { result ≤ 256 }
+{
+    let mut count = entries.len();
+    for entry in others {
+        if !sets_line(entries, entry.line) {
+            count += 1;
+        }
+    }
+    count
 }

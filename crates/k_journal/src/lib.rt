@@ -7,7 +7,9 @@
 //! view in place, and may lose its power at any moment too.
 //!
 //! The layer above may rely on both calls for every power, whatever words are put back where words
-//! of the device are lent. Neither takes memory: `Batch::new` makes all the room.
+//! of the device are lent. Neither takes memory: `Batch::new` makes all the room. A batch may be
+//! laid over another (`lay`), where there is room for the lines that are new (`has_room_for`): so
+//! changes that are planned one by one gather in one batch.
 //!
 //! Soundness after a call is an implication from the image before, since with the power off nothing is
 //! known of the device.

@@ -13,7 +13,7 @@
 //! Neither call touches a device.
 //!
 //! Sync and POSIX mode have one plan of a write; a write of no byte has a plan, which does nothing.
-//! `plan_write` waits for the modes that write in place; strict mode plans in `write_plan`.
+//! `write_begin` stages what the plan stages, and writes in place what it writes there.
 //!
 //! It stands on `file_overlay`, `map_collection`, `extent_map` and the modes of `posix_types`.
 #![tactic(auto)]

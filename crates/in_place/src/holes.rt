@@ -1,5 +1,5 @@
 //! Holes of a file get blocks.
-ghost use Rattle.std.specs.Prelude.{◌≡◌, ◌+◌, ◌^◌, ◌<◌, ◌≤◌, ◌&&◌, true, length, is_none};
+ghost use Rattle.std.specs.Prelude.{◌≡◌, ◌+◌, ◌^◌, ◌<◌, ◌≤◌, ◌&&◌, true, length, is_none, Ok};
 ghost use Rattle.zero_fill.specs.k_split_laws.pm_model.Powers.{is_on, Steps};
 ghost use Rattle.zero_fill.specs.block_counts.Counts.{blocks_for};
 ghost use Rattle.zero_fill.specs.k_split_laws.extent_model.Extents.{disk_at};
@@ -139,6 +139,8 @@ pub fn fill_absent(
     ensures steps { Steps (2 ^ 20) power.old power.new }
     ensures spared { absent_count k.old.volume files.now ino first count ≡ 0 → power.new ≡ power.old }
     ensures paid { IsHolesPaid power.old power.new result }
+    ensures enough { result ≡ Ok Holes.Filled → 1 ≤ absent_count k.old.volume files.now ino first count
+        → holes_need k.old staging.now files.now ino first count ≤ free_blocks_in k.old }
     ensures answer { IsHolesAnswer k.old k.new staging.now files.now ino first count result }
 {
     let absent = count_absent(k, files, ino, first, count);

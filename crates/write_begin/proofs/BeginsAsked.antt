@@ -1,5 +1,5 @@
 -- A write that no row refuses, and that finds room, goes to its target.
-use Rattle.std.specs.Prelude.{◌≡◌, ◌≤◌, ◌<◌, ◌+◌, ◌-◌, ℕ, true, List, [], ◌∷◌, length, drop, Option, None, Some, option_map, refl}
+use Rattle.std.specs.Prelude.{◌≡◌, ◌≤◌, ◌+◌, ◌-◌, ℕ, true, List, [], ◌∷◌, length, drop, Option, None, Some, option_map, refl}
 use Rattle.std.specs.Option.{option_map_or}
 use Rattle.std.proofs.Common.{arith, ap, ◌∙◌, sym, subst, inl, inr}
 use Rattle.write_plan.specs.pm_model.ImageLaws.{IsImage-words_of}
@@ -62,15 +62,15 @@ turned a b threads = record {
 
 -- ---- room
 
-module _ (t : Tables) (files : Files) (who : Who) (h : Handle) (at : Option ℕ) (len : ℕ) (target : Target) (is : IsTarget t files who h at len target) where
+module _ (mode : Mode) (t : Tables) (files : Files) (who : Who) (h : Handle) (at : Option ℕ) (len : ℕ) (target : Target) (is : IsTarget t files who h at len target) where
   own_size : target.size ≡ size_in files (file_number t who h)
   own_size = is.size_is ∙ ap (size_in files) (is.ino_is ∙ sym (ap (λ (o : Option Description). option_map_or (λ d. d.node) o 0) is.known))
 
-  own_need : write_need Mode.Strict target.size target.start (target.start + len) ≡ need_in Mode.Strict t files who h at len
-  own_need = (λ i. write_need Mode.Strict (own_size i) (is.start_is i) (is.start_is i + len))
+  own_need : write_need mode target.size target.start (target.start + len) ≡ need_in mode t files who h at len
+  own_need = (λ i. write_need mode (own_size i) (is.start_is i) (is.start_is i + len))
 
   -- the target finds room, as all files leave it
-  pub has_room : (v : Volume) (taken : ℕ) → FilesEnd v files → need_in Mode.Strict t files who h at len ≤ room_in (data_blocks v.geometry) files - taken → HasRoom Mode.Strict v files target len
+  pub has_room : (v : Volume) (taken : ℕ) → FilesEnd v files → need_in mode t files who h at len ≤ room_in (data_blocks v.geometry) files - taken → HasRoom mode v files target len
   has_room v taken ends fits = record { ends = ends; room = subst (λ n. n ≤ room_in (data_blocks v.geometry) files) (sym own_need) (omega (arith, fits)) }
 
 -- ---- the call
@@ -86,8 +86,8 @@ unfolding waits_for
 waits_of s who h None x = refl
 waits_of s who h (Some place) x = refl
 
-module _ (kept_law : StandsAsKept) (room_law : RoomIsKept) (k : View) (t : Tables) (staging : Staged) (files : Files) (who : Who) (h : Handle) (at : Option ℕ) (x : List ℕ) (taken : ℕ)
-    (found : Found k t staging files who (call_of h at x) taken) where
+module _ (kept_law : StandsAsKept) (room_law : RoomIsKept) (mode : Mode) (k : View) (t : Tables) (staging : Staged) (files : Files) (who : Who) (h : Handle) (at : Option ℕ) (x : List ℕ) (taken : ℕ)
+    (found : Found mode k t staging files who (call_of h at x) taken) where
   pub of_state : AreOfState found.s (number found.stands.numbers) t files
   of_state = kept_law found.g k t (with_parts found.kept staging files) true found.n found.s found.stands
 
@@ -95,9 +95,9 @@ module _ (kept_law : StandsAsKept) (room_law : RoomIsKept) (k : View) (t : Table
   room_is = room_law found.g k t (with_parts found.kept staging files) true found.n found.s found.stands
 
   -- the row that fits the call
-  pub row_is : RowsAsCall → first (write_rows found.s who h (start_of found.s who h at) x) ≡ row_in Mode.Strict t files who h at (length x) (data_blocks k.volume.geometry)
+  pub row_is : RowsAsCall → first (write_rows found.s who h (start_of found.s who h at) x) ≡ row_in mode t files who h at (length x) (data_blocks k.volume.geometry)
   row_is law = law found.s (number found.stands.numbers) t files who h at x (data_blocks k.volume.geometry) of_state room_is
-      ∙ ap (λ (m : Mode). row_in m t files who h at (length x) (data_blocks k.volume.geometry)) found.strict
+      ∙ ap (λ (m : Mode). row_in m t files who h at (length x) (data_blocks k.volume.geometry)) found.mode_is
 
   -- all jobs find room
   pub afforded : needs found.s found.stands.jobs ≤ room found.s
@@ -107,8 +107,8 @@ module _ (kept_law : StandsAsKept) (room_law : RoomIsKept) (k : View) (t : Table
     pub may : may_write found.s.tables who h ≡ true
     may = (Accepts-from_rows found.s who h (start_of found.s who h at) x none).may_write
 
-    pub need_is : need_of found.s who (call_of h at x) ≡ need_in Mode.Strict t files who h at (length x)
-    need_is = needs_law found.s (number found.stands.numbers) t files who h at x of_state may ∙ ap (λ (m : Mode). need_in m t files who h at (length x)) found.strict
+    pub need_is : need_of found.s who (call_of h at x) ≡ need_in mode t files who h at (length x)
+    need_is = needs_law found.s (number found.stands.numbers) t files who h at x of_state may ∙ ap (λ (m : Mode). need_in m t files who h at (length x)) found.mode_is
 
     pub start_is : start_of found.s who h at ≡ start_at t files who h at
     start_is = starts found.s (number found.stands.numbers) t files who h at of_state may
@@ -126,7 +126,7 @@ module _ (kept_law : StandsAsKept) (room_law : RoomIsKept) (k : View) (t : Table
       pub start_same : start_of found.s who h at ≡ target.start
       start_same = start_is ∙ sym is.start_is
 
-      abbrev pub goes_of : need_in Mode.Strict t files who h at (length x) ≤ room_in (data_blocks k.volume.geometry) files - taken → Goes k staging files who target x
+      abbrev pub goes_of : need_in mode t files who h at (length x) ≤ room_in (data_blocks k.volume.geometry) files - taken → Goes mode k staging files who target x
       goes_of fits = record {
         g = found.g;
         t = t;
@@ -136,6 +136,7 @@ module _ (kept_law : StandsAsKept) (room_law : RoomIsKept) (k : View) (t : Table
         s = found.s;
         call = call_of h at x;
         stands = found.stands;
+        mode_is = found.mode_is;
         opened = subst (λ n. is_open t n ≡ true) (sym is.ino_is) (handle_open t who h is.file is.known);
         puts = record {
           put = record { node = file_number found.s.tables who h; place = start_of found.s who h at; bytes = x };

@@ -2,6 +2,7 @@
 use Rattle.std.specs.Prelude.{◌≡◌, ◌≢◌, ◌≤◌, ◌/◌, ◌∷◌, [], ℕ, true, List, length, refl, Result, Err}
 use Rattle.std.proofs.Common.{ap, ◌∙◌, sym, subst, inl, inr}
 use Rattle.posix_types.specs.declared.call.Mode.{Mode}
+use Rattle.data_route.specs.Writes.{plan_of}
 use Rattle.write_plan.specs.file_table.Files.{Files}
 use Rattle.write_plan.specs.FirstWritesLaws.{FirstWriteFits}
 use Rattle.live_step_laws.specs.ReservesLaws.{KeepsReserved}
@@ -18,7 +19,6 @@ use Rattle.live_step_laws.specs.live_model.Losses.{KeepsWhenLost}
 use Rattle.live_step_laws.specs.live_model.Standing.{StandsAt}
 use Rattle.write_plan.specs.declared.asks.asking.Target.{Target}
 use Rattle.write_plan.specs.eof_laws.block_io.Overwrites.{blocks_reached}
-use Rattle.write_begin.proofs.Plans.{strict_staged}
 use Rattle.zero_fill.proofs.Lost.{left_off}
 use Rattle.write_begin.specs.Stages.{with_parts}
 use Rattle.write_begin.specs.Goes.{Goes, GoesNoFurther, HasRoom, IsBareAtRest, LacksRun, LosesTarget, reached_run}
@@ -27,8 +27,8 @@ use Rattle.write_begin.specs.Goes.{Goes, GoesNoFurther, HasRoom, IsBareAtRest, L
 abbrev pub IsLost : ℕ → Staged → View → Staged → View → Type 0
 IsLost count s k t l = let r : Result StageRun StageFault = Err StageFault.PowerLost in IsReserveAnswer count s k t l r
 
-pub loses_run : (k l : View) (old new : Staged) (files : Files) (who : Who) (target : Target) (x : List ℕ) (count : ℕ) → KeepsReserved → 1 ≤ count → count ≤ 33 → IsLost count old k new l → LosesTarget k l old files who target x
-loses_run k l old new files who target x count law some few answer = record {
+pub loses_run : (mode : Mode) (k l : View) (old new : Staged) (files : Files) (who : Who) (target : Target) (x : List ℕ) (count : ℕ) → KeepsReserved → 1 ≤ count → count ≤ 33 → IsLost count old k new l → LosesTarget mode k l old files who target x
+loses_run mode k l old new files who target x count law some few answer = record {
   left = λ goes. left goes answer;
   kept = λ goes start history same.
       subst
@@ -37,7 +37,7 @@ loses_run k l old new files who target x count law some few answer = record {
       (λ stands. law goes.g k l goes.t (with_parts goes.kept old files) new true goes.n start history (who, goes.call) count stands some few answer)
       goes.stands;
 } where
-  left : (goes : Goes k old files who target x) → IsLost count old k new l → IsLeftOf goes.g k.cells l.cells
+  left : (goes : Goes mode k old files who target x) → IsLost count old k new l → IsLeftOf goes.g k.cells l.cells
   left goes (inl was) = left_off goes.g k l goes.t (with_parts goes.kept old files) true goes.n goes.s goes.stands (ap (λ (y : View). y.cells) was.volume)
   left goes (inr cut) = elim cut.given [
     | inl off ↦ left_off goes.g k l goes.t (with_parts goes.kept old files) true goes.n goes.s goes.stands (ap (λ (y : View). y.cells) off)
@@ -46,8 +46,8 @@ loses_run k l old new files who target x count law some few answer = record {
   ]
 
 -- nothing changed
-pub goes_same : (k l : View) (old new : Staged) (files : Files) (who : Who) (target : Target) (x : List ℕ) → AreSame old new k l → GoesNoFurther k l old new files files who target x
-goes_same k l old new files who target x same = record {
+pub goes_same : (mode : Mode) (k l : View) (old new : Staged) (files : Files) (who : Who) (target : Target) (x : List ℕ) → AreSame old new k l → GoesNoFurther mode k l old new files files who target x
+goes_same mode k l old new files who target x same = record {
   runs = ap (λ (s : Staged). length s.out) same.staging;
   stands = λ goes.
       subst (λ y. StandsAt goes.g y goes.t (with_parts goes.kept new files) true goes.n goes.s) (sym same.volume)
@@ -55,25 +55,25 @@ goes_same k l old new files who target x same = record {
 }
 
 -- where nothing is staged, there is one
-pub first_fits : (k : View) (staging : Staged) (files : Files) (who : Who) (target : Target) (x : List ℕ) (count need left : ℕ) → FirstWriteFits → Goes k staging files who target x → HasRoom Mode.Strict k.volume files target (length x) → 1 ≤ length x
-    → count ≡ blocks_reached target.start (length x) → staging ≡ nothing_staged → IsLacking count staging k need left → ⊥
-first_fits k staging files who target x count need left law goes has some count_is fresh lacks =
-    law goes.g k goes.t (with_parts goes.kept staging files) true goes.n goes.s Mode.Strict target.size target.start (length x) need left (target.start / 4096, blocks_reached target.start (length x)) goes.stands fresh has.ends has.room
-    (strict_staged target.size target.start (length x) some)
+pub first_fits : (mode : Mode) (k : View) (staging : Staged) (files : Files) (who : Who) (target : Target) (x : List ℕ) (count need left : ℕ) → FirstWriteFits → Goes mode k staging files who target x → HasRoom mode k.volume files target (length x)
+    → (plan_of mode target.size target.start (length x)).staged ≡ reached_run target (length x) → count ≡ blocks_reached target.start (length x) → staging ≡ nothing_staged → IsLacking count staging k need left → ⊥
+first_fits mode k staging files who target x count need left law goes has plan count_is fresh lacks =
+    law goes.g k goes.t (with_parts goes.kept staging files) true goes.n goes.s mode target.size target.start (length x) need left (target.start / 4096, blocks_reached target.start (length x)) goes.stands fresh has.ends has.room
+    plan
     (subst (λ n. IsLacking n staging k need left) count_is lacks)
 
 -- a staging of which a run is out
 pub late_of : (old new : Staged) → new ≡ old → IsBareAtRest old → (new ≡ nothing_staged → ⊥) → old.out ≢ []
 late_of old new same bare staged none = staged (same ∙ bare none)
 
-pub lacks_run : (k l : View) (old new : Staged) (files : Files) (who : Who) (target : Target) (x : List ℕ) (count need left : ℕ) → count ≡ blocks_reached target.start (length x) → old.out ≢ []
-    → IsLacking count old k need left → AreSame old new k l → LacksRun k l old new files files who target x (reached_run target (length x)) need left
-lacks_run k l old new files who target x count need left count_is late lacks same = record {
+pub lacks_run : (mode : Mode) (k l : View) (old new : Staged) (files : Files) (who : Who) (target : Target) (x : List ℕ) (count need left : ℕ) → count ≡ blocks_reached target.start (length x) → old.out ≢ []
+    → IsLacking count old k need left → AreSame old new k l → LacksRun mode k l old new files files who target x (reached_run target (length x)) need left
+lacks_run mode k l old new files who target x count need left count_is late lacks same = record {
   needed = (target.start / 4096, blocks_reached target.start (length x));
   run_is = refl;
   lacks = subst (λ n. IsLacking n old k need left) count_is lacks;
   late = late;
   same = same.staging;
   nothing = same.volume;
-  stays = goes_same k l old new files who target x same;
+  stays = goes_same mode k l old new files who target x same;
 }

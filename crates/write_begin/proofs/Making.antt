@@ -1,24 +1,21 @@
 -- What the parts of a job ask for.
-use Rattle.std.specs.Prelude.{◌≡◌, ◌≢◌, ◌⊎◌, ◌≤◌, ◌<◌, ◌+◌, ◌-◌, ◌*◌, ◌/◌, ◌%◌, ◌^◌, ℕ, true, false, Contains, List, [], ◌∷◌, ◌++◌, length, map, Option, Some, None, slice_index, refl}
-use Rattle.std.proofs.Common.{arith, ap, ◌∙◌, sym, subst, inl, inr}
+use Rattle.std.specs.Prelude.{◌≡◌, ◌≤◌, ◌<◌, ◌+◌, ◌-◌, ◌*◌, ◌/◌, ◌^◌, ℕ, true, Contains, List, length}
+use Rattle.std.proofs.Common.{arith, ap, ◌∙◌, sym, subst}
 use Rattle.std.proofs.lemmas.Bool.Decides.{nat_tests}
-use Rattle.std.proofs.lemmas.Option.{same_Some}
-use Rattle.write_jobs.specs.pm_model.declared.Cell.{Cell}
-use Rattle.write_jobs.specs.pm_model.Cells.{cell, is_single}
+use Rattle.write_jobs.specs.pm_model.Cells.{is_single}
 use Rattle.write_jobs.specs.pm_model.ImageLaws.{IsImage-words_of}
 use Rattle.write_jobs.specs.pm_model.Images.{words_of}
 use Rattle.write_jobs.specs.pm_model.Parts.{Part}
 use Rattle.write_jobs.specs.layout_model.Journal.{journaled}
 use Rattle.write_jobs.specs.layout_model.declared.lines.Draft.{Draft}
 use Rattle.write_jobs.specs.layout_model.block_counts.declared.TheConstants.{LONGEST_FILE}
-use Rattle.write_jobs.specs.image_model.Volume.{extents, inode, Volume}
-use Rattle.write_jobs.specs.extent_model.Extents.{disk_at, is_within}
+use Rattle.write_jobs.specs.image_model.Volume.{inode, Volume}
+use Rattle.write_jobs.specs.extent_model.Extents.{is_within}
 use Rattle.live_step_laws.specs.file_reads.Reads.{FileCanBeRead}
 use Rattle.live_step_laws.specs.file_table.Files.{Files, runs_in}
 use Rattle.posix_laws.proofs.ByteLaws.{length-resized}
 use Rattle.write_jobs.specs.k_map_plans.Plans.{IsStagingFile}
 use Rattle.write_jobs.specs.k_split_model.View.{View}
-use Rattle.write_jobs.specs.k_split.Loans.{MayLend}
 use Rattle.posix_types.specs.declared.call.Who.{Who}
 use Rattle.posix_tables.specs.Bytes.{overwritten}
 use Rattle.live_step_laws.specs.staging_files.declared.runs.StageRun.{StageRun}
@@ -27,8 +24,8 @@ use Rattle.live_step_laws.proofs.staging_files_proofs.GiveUpLaws.{staging-file}
 use Rattle.write_jobs.specs.volume_laws.OwnerLaws.{IsOnePlace, one_owner}
 use Rattle.write_jobs.specs.world_model.Lent.{once_named}
 use Rattle.write_jobs.specs.world_model.TreeRules.{used_below}
-use Rattle.write_jobs.specs.world_model.Jobs.{live_claims, staged_block}
-use Rattle.write_jobs.specs.world_model.Stands.{entries_of, is_used, IsSane}
+use Rattle.write_jobs.specs.world_model.Jobs.{live_claims}
+use Rattle.write_jobs.specs.world_model.Stands.{is_used, IsSane}
 use Rattle.write_jobs.specs.world_step_laws.Worlds.{IsWorld}
 use Rattle.write_jobs.specs.Loans.{AreLoansOf, MayLendAll}
 use Rattle.write_plan.specs.declared.asks.asking.Target.{Target}

@@ -1,5 +1,5 @@
 -- A run is reserved for a write, and its job begins, or the run goes back.
-use Rattle.std.specs.Prelude.{◌≡◌, ◌⊎◌, ◌≤◌, ◌+◌, ◌-◌, ◌/◌, ◌==◌, ℕ, true, false, Contains, List, [], ◌∷◌, ◌++◌, length, max, IsSome, Option, Some, remove, slice_get, refl, Result, Ok}
+use Rattle.std.specs.Prelude.{◌≡◌, ◌≢◌, ◌⊎◌, ◌≤◌, ◌+◌, ◌-◌, ◌/◌, ◌==◌, ℕ, true, false, Contains, List, [], ◌∷◌, ◌++◌, length, max, IsSome, Option, None, Some, remove, slice_get, refl, Result, Ok}
 use Rattle.std.proofs.Common.{arith, ap, ◌∙◌, sym, subst, inl, inr, eq-eqb}
 use Rattle.std.proofs.lemmas.Bool.{cases_eq}
 use Rattle.std.proofs.lemmas.Bool.Decides.{nat_tests}
@@ -12,6 +12,7 @@ use Rattle.std.proofs.lemmas.List.Folds.{list_any_at}
 use Rattle.block_counts.specs.Counts.{blocks_for}
 use Rattle.write_plan.specs.layout_model.declared.lines.Draft.{Draft}
 use Rattle.write_plan.specs.layout_model.declared.lines.Inode.{Inode}
+use Rattle.write_plan.specs.layout_model.declared.lines.Kind.TheVariants.{File}
 use Rattle.write_plan.specs.layout_model.block_counts.declared.TheConstants.{LONGEST_FILE}
 use Rattle.write_plan.specs.pm_model.declared.Cell.{Cell}
 use Rattle.write_plan.specs.pm_model.Cells.{cell, is_lent}
@@ -32,6 +33,7 @@ use Rattle.zero_fill.specs.Zeros.{ReadZero}
 use Rattle.zero_fill.proofs.k_split_laws_proofs.Cuts.{left_through}
 use Rattle.write_plan.specs.k_split_model.View.{View}
 use Rattle.write_plan.specs.list_laws.Members.{In, slice_get-push}
+use Rattle.posix_types.specs.declared.call.Mode.{Mode}
 use Rattle.posix_types.specs.declared.call.Who.{Who}
 use Rattle.write_plan.specs.posix_laws.Views.{need_of}
 use Rattle.write_plan.specs.posix_spec.State.{room, State}
@@ -45,12 +47,14 @@ use Rattle.live_step_laws.specs.relink_laws.world_write_laws.Restages.{Restages}
 use Rattle.live_step_laws.specs.world_model.Jobs.{live_claims}
 use Rattle.live_step_laws.specs.world_model.Stands.{number}
 use Rattle.live_step_laws.specs.live_model.Standing.{Kept, reserved_run, StandsAt}
+use Rattle.in_place.specs.Holes.{IsPresent}
 use Rattle.write_plan.specs.declared.asks.asking.Target.{Target}
 use Rattle.write_plan.specs.eof_laws.block_io.Overwrites.{blocks_reached}
 use Rattle.live_step_laws.specs.live_model.Jobs.{SpellCall}
 use Rattle.write_plan.specs.write_jobs.Jobs.{JobView}
-use Rattle.write_begin.specs.Stages.{IsPresent, IsStaged as IsJobStaged, Ready, with_parts}
+use Rattle.write_begin.specs.Stages.{IsStaged as IsJobStaged, Ready, with_parts}
 use Rattle.write_begin.specs.Goes.{BecomesJob, FitsTarget, Goes, GoesNoFurther, job_of, KeepsMaps, LosesTarget, reached_run, RunGivenBack, StagedAsJob}
+use Rattle.write_begin.proofs.Maps.{ends_over, line_same, none_own, same_maps}
 use Rattle.write_begin.proofs.Steps.{puts_at}
 
 -- what the reserve answers with a run
@@ -112,26 +116,26 @@ contains_at xs i x is = (i, slice_get_within xs i x is, get_or_from_slice_get xs
 remove_last : (xs : List StageRun) (x : StageRun) → remove (xs ++ x ∷ []) (length xs) ≡ xs
 remove_last xs x = remove-append_right xs (x ∷ []) (length xs) (length xs) refl (omega arith) ∙ (ap (λ n. xs ++ remove (x ∷ []) n) (sub_self (length xs)) ∙ append-nil xs)
 
-module _ (k l : View) (old new : Staged) (files : Files) (who : Who) (target : Target) (x : List ℕ) (count : ℕ) (taken : StageRun) (law : StandsReserved) (some : 1 ≤ count) (few : count ≤ 33) (answer : IsRun count old k new l taken) where
-  abbrev pub kept_of : (goes : Goes k old files who target x) → Kept
+module _ (mode : Mode) (k l : View) (old new : Staged) (files : Files) (who : Who) (target : Target) (x : List ℕ) (count : ℕ) (taken : StageRun) (law : StandsReserved) (some : 1 ≤ count) (few : count ≤ 33) (answer : IsRun count old k new l taken) where
+  abbrev pub kept_of : (goes : Goes mode k old files who target x) → Kept
   kept_of goes = with_parts goes.kept old files
 
-  pub with_run : (goes : Goes k old files who target x) → StandsWithRun goes.g k l goes.t (kept_of goes) new true goes.n goes.s taken goes.stands
+  pub with_run : (goes : Goes mode k old files who target x) → StandsWithRun goes.g k l goes.t (kept_of goes) new true goes.n goes.s taken goes.stands
   with_run goes = law goes.g k l goes.t (kept_of goes) new true goes.n goes.s count taken goes.stands some few answer
 
   -- the same entries are live
-  same_live : (goes : Goes k old files who target x) → live_claims l.volume goes.kept.claims ≡ live_claims k.volume goes.kept.claims
+  same_live : (goes : Goes mode k old files who target x) → live_claims l.volume goes.kept.claims ≡ live_claims k.volume goes.kept.claims
   same_live goes = by answer where
     by : IsRun count old k new l taken → live_claims l.volume goes.kept.claims ≡ live_claims k.volume goes.kept.claims
     by (inl was) = ap (λ (y : View). live_claims y.volume goes.kept.claims) was.same
     by (inr given) =
         restaging.same_live goes.g k goes.t (kept_of goes) true goes.n goes.s goes.stands taken.staging (share old k count) l.volume given.given.0 given.way.place.staging given.way.place.empty given.given.1 given.given.2.order.whole
 
-  pub claims_out : (goes : Goes k old files who target x) → (d : Draft) → In d (live_claims l.volume goes.kept.claims) → Contains old.out (reserved_run d)
+  pub claims_out : (goes : Goes mode k old files who target x) → (d : Draft) → In d (live_claims l.volume goes.kept.claims) → Contains old.out (reserved_run d)
   claims_out goes d is = goes.stands.claims_out d (subst (In d) (same_live goes) is)
 
   -- the file of the write, with the run out
-  abbrev pub has_file : (goes : Goes k old files who target x) → HasFile l files target.ino
+  abbrev pub has_file : (goes : Goes mode k old files who target x) → HasFile l files target.ino
   has_file goes = record {
     g = goes.g;
     t = goes.t;
@@ -148,16 +152,15 @@ module _ (k l : View) (old new : Staged) (files : Files) (who : Who) (target : T
   run_out = subst (λ xs. Contains xs taken) (sym (run_is count old new k l taken answer).out_is) (last_in old.out taken)
 
   -- no map of a file changes
-  pub keeps_maps : (goes : Goes k old files who target x) → KeepsMaps k.volume l.volume files files
+  pub keeps_maps : (goes : Goes mode k old files who target x) → KeepsMaps k.volume l.volume files files None
   keeps_maps goes = by answer where
-    by : IsRun count old k new l taken → KeepsMaps k.volume l.volume files files
-    by (inl was) = subst (λ (y : View). KeepsMaps k.volume y.volume files files) (sym was.same) (record { kinds = λ ino. refl; maps = λ ino file. refl; runs = λ ino. refl; sizes = refl; base = refl })
+    by : IsRun count old k new l taken → KeepsMaps k.volume l.volume files files None
+    by (inl was) = subst (λ (y : View). KeepsMaps k.volume y.volume files files None) (sym was.same) (same_maps k.volume files)
     by (inr given) = record {
-      kinds = λ ino. elim (cases_eq ino taken.staging) [
-        | inl own ↦ ap (λ (m : ℕ). (inode l.volume m).kind) own ∙ (restages.kind ∙ (sym restages.staging ∙ ap (λ (m : ℕ). (inode k.volume m).kind) (sym own)))
-        | inr other ↦ ap (λ (y : Inode). y.kind) (restages.others ino other)
-      ];
-      maps = λ ino file. restages.maps ino (restaging.file_other goes.g k goes.t (kept_of goes) true goes.n goes.s goes.stands taken.staging (share old k count) l.volume given.given.0 given.way.place.staging given.way.place.empty given.given.1 given.given.2.order.whole ino file);
+      kinds = kinds;
+      lines = λ ino file. line_same (inode k.volume ino) (inode l.volume ino) (restages.others ino (is_other ino file));
+      maps = λ ino file not_own. maps ino file;
+      ends = ends_over k.volume l.volume files kinds maps;
       runs = λ ino. refl;
       sizes = refl;
       base = restaging.same_base goes.g k goes.t (kept_of goes) true goes.n goes.s goes.stands taken.staging (share old k count) l.volume given.given.0 given.way.place.staging given.way.place.empty given.given.1 given.given.2.order.whole;
@@ -165,25 +168,37 @@ module _ (k l : View) (old new : Staged) (files : Files) (who : Who) (target : T
       restages : Restages k.volume l.volume taken.staging
       restages = restaging.restages goes.g k goes.t (kept_of goes) true goes.n goes.s goes.stands taken.staging (share old k count) l.volume given.given.0 given.way.place.staging given.way.place.empty given.given.1 given.given.2.order.whole
 
+      is_other : (ino : ℕ) → (inode k.volume ino).kind ≡ File → ino ≢ taken.staging
+      is_other ino file = restaging.file_other goes.g k goes.t (kept_of goes) true goes.n goes.s goes.stands taken.staging (share old k count) l.volume given.given.0 given.way.place.staging given.way.place.empty given.given.1 given.given.2.order.whole ino file
+
+      kinds : (ino : ℕ) → (inode l.volume ino).kind ≡ (inode k.volume ino).kind
+      kinds ino = elim (cases_eq ino taken.staging) [
+        | inl own ↦ ap (λ (m : ℕ). (inode l.volume m).kind) own ∙ (restages.kind ∙ (sym restages.staging ∙ ap (λ (m : ℕ). (inode k.volume m).kind) (sym own)))
+        | inr other ↦ ap (λ (y : Inode). y.kind) (restages.others ino other)
+      ]
+
+      maps : (ino : ℕ) → (inode k.volume ino).kind ≡ File → extents l.volume ino ≡ extents k.volume ino
+      maps ino file = restages.maps ino (is_other ino file)
+
   -- ---- the bytes behind the end of the file are zeroed
 
   module _ (m : View) (clears : Clears target.ino files l m (block_start target.start)) where
-    abbrev pub onward : (goes : Goes k old files who target x) → Stays l files target.ino (has_file goes) m
+    abbrev pub onward : (goes : Goes mode k old files who target x) → Stays l files target.ino (has_file goes) m
     onward goes = clears.stays (has_file goes)
 
-    pub jobs_are : (goes : Goes k old files who target x) → (onward goes).now.jobs ≡ goes.stands.jobs
+    pub jobs_are : (goes : Goes mode k old files who target x) → (onward goes).now.jobs ≡ goes.stands.jobs
     jobs_are goes = (onward goes).jobs_are ∙ (with_run goes).jobs_are
 
-    pub numbers_are : (goes : Goes k old files who target x) → (onward goes).now.numbers ≡ goes.stands.numbers
+    pub numbers_are : (goes : Goes mode k old files who target x) → (onward goes).now.numbers ≡ goes.stands.numbers
     numbers_are goes = (onward goes).numbers_are ∙ (with_run goes).numbers_are
 
     pub volume_is : m.volume ≡ l.volume
     volume_is = ap (λ (y : View). y.volume) clears.same
 
-    pub claims_then : (goes : Goes k old files who target x) → (d : Draft) → In d (live_claims m.volume goes.kept.claims) → Contains old.out (reserved_run d)
+    pub claims_then : (goes : Goes mode k old files who target x) → (d : Draft) → In d (live_claims m.volume goes.kept.claims) → Contains old.out (reserved_run d)
     claims_then goes d is = claims_out goes d (subst (λ (v : Volume). In d (live_claims v goes.kept.claims)) volume_is is)
 
-    pub there : (goes : Goes k old files who target x) → IsThere m taken
+    pub there : (goes : Goes mode k old files who target x) → IsThere m taken
     there goes b is =
         let home = (with_run goes).there b is in
         record {
@@ -192,16 +207,16 @@ module _ (k l : View) (old new : Staged) (files : Files) (who : Who) (target : T
           home = λ i word. clears.lent i ∙ home.home i word;
         }
 
-    pub single : (goes : Goes k old files who target x) → IsRunSingle m taken
+    pub single : (goes : Goes mode k old files who target x) → IsRunSingle m taken
     single goes b is disk i at word =
         clears.singles i ((with_run goes).single b is disk i (sym (ap (λ (v : Volume). disk_at (extents v taken.staging) b) volume_is) ∙ at) word)
 
-    pub present_then : (goes : Goes k old files who target x) (block : ℕ) → IsPresent k.volume files target.ino block → IsPresent m.volume files target.ino block
+    pub present_then : (goes : Goes mode k old files who target x) (block : ℕ) → IsPresent k.volume files target.ino block → IsPresent m.volume files target.ino block
     present_then goes block =
         subst (λ es. IsSome (disk_at es block) ⊎ IsSome (staged_at (runs_in files target.ino) block))
-        (sym (ap (λ (v : Volume). extents v target.ino) volume_is ∙ (keeps_maps goes).maps target.ino (goes.stands.open_are_files target.ino goes.opened)))
+        (sym (ap (λ (v : Volume). extents v target.ino) volume_is ∙ (keeps_maps goes).maps target.ino (goes.stands.open_are_files target.ino goes.opened) (none_own target.ino)))
 
-    pub owed_then : (goes : Goes k old files who target x) → length (live_claims m.volume goes.kept.claims) + length (onward goes).now.jobs + 1 ≤ length new.out
+    pub owed_then : (goes : Goes mode k old files who target x) → length (live_claims m.volume goes.kept.claims) + length (onward goes).now.jobs + 1 ≤ length new.out
     owed_then goes =
         let owed = (with_run goes).owed in
         let jobs = ap length (jobs_are goes) in
@@ -210,7 +225,7 @@ module _ (k l : View) (old new : Staged) (files : Files) (who : Who) (target : T
 
     -- THE WRITE CAN BE STAGED
     abbrev pub ready_of : FitsTarget files target (length x) → target.size ≤ LONGEST_FILE → count ≡ blocks_reached target.start (length x) → 3 ≤ spare_in files target.ino
-        → (goes : Goes k old files who target x) → Ready m files who target x taken
+        → (goes : Goes mode k old files who target x) → Ready m files who target x taken
     ready_of fits small count_is spare goes = record {
       g = goes.g;
       t = goes.t;
@@ -252,8 +267,8 @@ module _ (k l : View) (old new : Staged) (files : Files) (who : Who) (target : T
     -- ---- it is a job
 
     pub becomes_job : (p : View) (last : Staged) (job : JobView) (blocks : List ℕ) → FitsTarget files target (length x) → target.size ≤ LONGEST_FILE → count ≡ blocks_reached target.start (length x)
-        → 3 ≤ spare_in files target.ino → Goes k old files who target x → StagedAsJob m p new last files who target x taken job blocks
-        → BecomesJob k p old last files files who target x (reached_run target (length x)) job blocks
+        → 3 ≤ spare_in files target.ino → Goes mode k old files who target x → StagedAsJob m p new last files who target x taken job blocks
+        → BecomesJob mode k p old last files files who target x (reached_run target (length x)) job blocks
     becomes_job p last job blocks fits small count_is spare goes_one staged = record {
       found = λ need left lacks.
           lacks_none count old new k l taken goes_one.stands.staged answer need left (subst (λ n. IsLacking n old k need left) (ap (λ (d : Draft). d.count) staged.job_is.draft ∙ (run_is count old new k l taken answer).count_is) lacks);
@@ -274,12 +289,12 @@ module _ (k l : View) (old new : Staged) (files : Files) (who : Who) (target : T
           (λ (d : Draft). StandsAt goes.g p goes.t (record (with_parts goes.kept new files) { pending = goes.kept.pending ++ record { who = who; call = goes.call; draft = d; blocks = blocks } ∷ [] }) true goes.n goes.s)
           (sym staged.job_is.draft) (is_out goes).stands);
     } where
-      is_out : (goes : Goes k old files who target x) → IsJobStaged m p files who target x taken job.words blocks (ready_of fits small count_is spare goes)
+      is_out : (goes : Goes mode k old files who target x) → IsJobStaged m p files who target x taken job.words blocks (ready_of fits small count_is spare goes)
       is_out goes = staged.staged (ready_of fits small count_is spare goes)
 
     -- ---- it goes back
 
-    module _ (goes_one : Goes k old files who target x) where
+    module _ (goes_one : Goes mode k old files who target x) where
       own_block : has_block taken.staging taken.block taken ≡ true
       own_block = has_first taken (omega (arith, (run_is count old new k l taken answer).count_is, some))
 
@@ -299,7 +314,7 @@ module _ (k l : View) (old new : Staged) (files : Files) (who : Who) (target : T
             ∙ ((λ i. remove ((run_is count old new k l taken answer).out_is i) (here.0 i)) ∙ remove_last old.out taken)
 
       -- the World stands together without it
-      pub goes_back : (p : View) (last : Staged) → RunGivenBack m p new last taken → GoesNoFurther k p old last files files who target x
+      pub goes_back : (p : View) (last : Staged) → RunGivenBack m p new last taken → GoesNoFurther mode k p old last files files who target x
       goes_back p last back = record {
         runs = ap length (out_again last back.back);
         stands = λ goes. subst (λ y. StandsAt goes.g y goes.t (with_parts goes.kept last files) true goes.n goes.s) (sym back.same) (now goes);
@@ -307,7 +322,7 @@ module _ (k l : View) (old new : Staged) (files : Files) (who : Who) (target : T
         out_is : last.out ≡ old.out
         out_is = out_again last back.back
 
-        now : (goes : Goes k old files who target x) → StandsAt goes.g m goes.t (with_parts goes.kept last files) true goes.n goes.s
+        now : (goes : Goes mode k old files who target x) → StandsAt goes.g m goes.t (with_parts goes.kept last files) true goes.n goes.s
         now goes =
             let was = (onward goes).now in
             record {
@@ -360,7 +375,7 @@ module _ (k l : View) (old new : Staged) (files : Files) (who : Who) (target : T
     by (inr given) = given.given.2.changes.lent
 
   -- what is kept over the volume with the run is kept over the one before
-  kept_before : (goes : Goes k old files who target x) (cells : List Cell) (start : State) (history : List Item)
+  kept_before : (goes : Goes mode k old files who target x) (cells : List Cell) (start : State) (history : List Item)
       → IsKeptBack l.volume cells goes.kept.first goes.kept.claims goes.stands.jobs start history ((who, goes.call) ∷ [])
       → IsKeptBack k.volume cells goes.kept.first goes.kept.claims goes.stands.jobs start history ((who, goes.call) ∷ [])
   kept_before goes cells start history kept = by answer where
@@ -375,7 +390,7 @@ module _ (k l : View) (old new : Staged) (files : Files) (who : Who) (target : T
         (restaging.none_out goes.g k goes.t (kept_of goes) true goes.n goes.s goes.stands taken.staging (share old k count) l.volume given.given.0 given.way.place.staging given.way.place.empty given.given.1 given.given.2.order.whole))
         kept
 
-  pub loses_gap : (m : View) → LosesGap target.ino files l m → LosesTarget k m old files who target x
+  pub loses_gap : (m : View) → LosesGap target.ino files l m → LosesTarget mode k m old files who target x
   loses_gap m loses = record {
     left = λ goes. left_through goes.g k.cells l.cells m.cells size_then lent_then (loses.left (has_file goes));
     kept = λ goes start history same mode.

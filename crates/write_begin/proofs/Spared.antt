@@ -1,10 +1,11 @@
 -- Memory for the run of a write.
-use Rattle.std.specs.Prelude.{◌≡◌, ◌≢◌, ◌≤◌, ◌<◌, ◌+◌, ◌⊎◌, ℕ, List, [], ◌∷◌, length, slice_index, IsSome, refl}
+use Rattle.std.specs.Prelude.{◌≡◌, ◌≢◌, ◌≤◌, ◌<◌, ◌+◌, ◌⊎◌, ℕ, List, [], ◌∷◌, length, None, slice_index, IsSome, refl}
 use Rattle.std.proofs.Common.{arith, ap, ◌∙◌, sym, subst, inl, inr}
 use Rattle.block_counts.specs.Counts.{blocks_for}
 use Rattle.write_plan.specs.layout_model.declared.lines.Draft.{Draft}
 use Rattle.write_plan.specs.layout_model.Places.{data_blocks}
-use Rattle.write_plan.specs.image_model.Volume.{extents, Volume}
+use Rattle.write_plan.specs.eof_laws.Ends.{FilesEnd}
+use Rattle.write_plan.specs.image_model.Volume.{extents, inode, Volume}
 use Rattle.write_plan.specs.extent_model.Extents.{disk_at}
 use Rattle.write_plan.specs.file_overlay.Runs.{staged_at}
 use Rattle.write_plan.specs.file_table.Files.{Files, runs_in, size_in, spare_in}
@@ -23,7 +24,8 @@ use Rattle.live_step_laws.specs.world_model.Stands.{is_used}
 use Rattle.live_step_laws.specs.live_model.Standing.{AreJobsOf, file_state, JobOut}
 use Rattle.write_plan.specs.declared.asks.asking.Target.{Target}
 use Rattle.write_plan.specs.Asks.{room_in}
-use Rattle.write_begin.specs.Goes.{Goes, HasRoom}
+use Rattle.write_begin.specs.Goes.{Goes, HasRoom, KeepsMaps}
+use Rattle.write_begin.proofs.Maps.{line_same}
 use Rattle.write_begin.proofs.Steps.{Onward}
 
 -- The files are those before but for the room that is spare in one line.
@@ -40,8 +42,8 @@ job_of_pending (q ∷ pending) (j ∷ jobs) are p (inl same) = (j, inl refl, are
 job_of_pending (q ∷ pending) (j ∷ jobs) are p (inr behind) = let rest = job_of_pending pending jobs are.3 p behind in (rest.0, inr rest.1, rest.2, rest.3)
 
 -- the file has its line
-pub line_there : (k : View) (staging : Staged) (files : Files) (who : Who) (target : Target) (x : List ℕ) → Goes k staging files who target x → target.ino < length files.sizes
-line_there k staging files who target x goes =
+pub line_there : (mode : Mode) (k : View) (staging : Staged) (files : Files) (who : Who) (target : Target) (x : List ℕ) → Goes mode k staging files who target x → target.ino < length files.sizes
+line_there mode k staging files who target x goes =
     let file = goes.stands.open_are_files target.ino goes.opened in
     let below = used_below k.volume target.ino (ap is_used file) in
     let count = goes.stands.sizes.count in
@@ -49,13 +51,13 @@ line_there k staging files who target x goes =
 
 -- ---- memory
 
-module _ (k : View) (staging : Staged) (files then : Files) (who : Who) (target : Target) (x : List ℕ) (spares : SparesOthers target.ino files then) where
-  not_own : (goes : Goes k staging files who target x) → (p : JobOut) → In p goes.kept.pending → p.draft.ino ≢ target.ino
+module _ (mode : Mode) (k : View) (staging : Staged) (files then : Files) (who : Who) (target : Target) (x : List ℕ) (spares : SparesOthers target.ino files then) where
+  not_own : (goes : Goes mode k staging files who target x) → (p : JobOut) → In p goes.kept.pending → p.draft.ino ≢ target.ino
   not_own goes p is own =
       let j = job_of_pending goes.kept.pending goes.stands.jobs goes.stands.jobs_are p is in
       goes.others j.0 j.1 (ap (λ (d : Draft). d.ino) j.2 ∙ own)
 
-  flying : (goes : Goes k staging files who target x) → IsFlying k.volume k.cells goes.kept.claims goes.stands.jobs (file_state then) goes.stands.numbers goes.s goes.stands.count
+  flying : (goes : Goes mode k staging files who target x) → IsFlying k.volume k.cells goes.kept.claims goes.stands.jobs (file_state then) goes.stands.numbers goes.s goes.stands.count
   flying goes = record {
     device = goes.stands.flying.device;
     whole = goes.stands.flying.whole;
@@ -66,7 +68,7 @@ module _ (k : View) (staging : Staged) (files then : Files) (who : Who) (target 
         (subst (λ rs. IsOverlayOf k.volume (live_claims k.volume goes.kept.claims) ino rs (size_in files ino)) (sym (spares.runs ino)) (goes.stands.flying.overlays ino file));
   }
 
-  pub spared : (goes : Goes k staging files who target x) → Onward k k staging staging files then who target x goes
+  pub spared : (goes : Goes mode k staging files who target x) → Onward mode k k staging staging files then who target x goes
   spared goes = record {
     now = record {
       count = goes.stands.count;
@@ -103,14 +105,30 @@ module _ (k : View) (staging : Staged) (files then : Files) (who : Who) (target 
     present = λ block. subst (λ rs. IsSome (disk_at (extents k.volume target.ino) block) ⊎ IsSome (staged_at rs block)) (sym (spares.runs target.ino));
   }
 
--- it leaves the room that there is
+-- nothing comes to lie past the end of a file,
+ends_spared : (ino : ℕ) (v : Volume) (files then : Files) → SparesOthers ino files then → FilesEnd v files → FilesEnd v then
+ends_spared own v files then spares ends = record {
+  maps = λ ino block file past. ends.maps ino block file (subst (λ (sizes : List ℕ). blocks_for (slice_index sizes ino) ≤ block) spares.sizes past);
+  runs = λ ino run is.
+      subst (λ (sizes : List ℕ). run.file_block + run.count ≤ blocks_for (slice_index sizes ino)) (sym spares.sizes) (ends.runs ino run (subst (In run) (spares.runs ino) is));
+}
+
+-- and all maps are kept
+pub maps_spared : (ino : ℕ) (v : Volume) (files then : Files) → SparesOthers ino files then → KeepsMaps v v files then None
+maps_spared own v files then spares = record {
+  kinds = λ ino. refl;
+  lines = λ ino file. line_same (inode v ino) (inode v ino) refl;
+  maps = λ ino file other. refl;
+  runs = spares.runs;
+  sizes = spares.sizes;
+  ends = ends_spared own v files then spares;
+  base = refl;
+}
+
+-- It leaves the room that there is.
 pub room_spared : (mode : Mode) (v : Volume) (files then : Files) (target : Target) (len : ℕ) → SparesOthers target.ino files then → HasRoom mode v files target len → HasRoom mode v then target len
 room_spared mode v files then target len spares has = record {
-  ends = record {
-    maps = λ ino block file past. has.ends.maps ino block file (subst (λ (sizes : List ℕ). blocks_for (slice_index sizes ino) ≤ block) spares.sizes past);
-    runs = λ ino run is.
-        subst (λ (sizes : List ℕ). run.file_block + run.count ≤ blocks_for (slice_index sizes ino)) (sym spares.sizes) (has.ends.runs ino run (subst (In run) (spares.runs ino) is));
-  };
+  ends = ends_spared target.ino v files then spares has.ends;
   room =
       subst (λ n. write_need mode target.size target.start (target.start + len) ≤ n) (ap (λ (sizes : List ℕ). room_in (data_blocks v.geometry) (record files { sizes = sizes })) (sym spares.sizes))
       has.room;

@@ -1,5 +1,5 @@
 -- The job stands, and the World stands together with it.
-use Rattle.std.specs.Prelude.{◌≡◌, ◌≢◌, ◌⊎◌, ◌≤◌, ◌<◌, ◌+◌, ◌-◌, ◌*◌, ◌/◌, ℕ, true, false, Contains, List, [], ◌∷◌, ◌++◌, drop, length, map, max, Option, Some, None, IsSome, slice_index, refl}
+use Rattle.std.specs.Prelude.{◌≡◌, ◌⊎◌, ◌≤◌, ◌<◌, ◌+◌, ◌-◌, ◌*◌, ◌/◌, ℕ, true, false, Contains, List, [], ◌∷◌, drop, length, max, Option, Some, IsSome, slice_index, refl}
 use Rattle.std.proofs.Common.{arith, ap, ◌∙◌, sym, subst, inl, inr}
 use Rattle.std.proofs.Math.ListN.{get_or-map}
 use Rattle.std.proofs.lemmas.Bool.{cases_lt}
@@ -8,7 +8,6 @@ use Rattle.std.proofs.lemmas.List.{get_or_past, length-drop, length-map}
 use Rattle.std.proofs.lemmas.Option.{same_Some}
 use Rattle.posix_types.specs.declared.call.Call.{Call}
 use Rattle.posix_types.specs.declared.call.Mode.{Mode}
-use Rattle.write_jobs.specs.pm_model.declared.Cell.{Cell}
 use Rattle.write_jobs.specs.pm_model.ImageLaws.{IsImage-words_of}
 use Rattle.write_jobs.specs.pm_model.Images.{IsImage, words_of}
 use Rattle.write_jobs.specs.pm_model.Parts.{Part}
@@ -18,20 +17,19 @@ use Rattle.write_jobs.specs.layout_model.Journal.{journaled}
 use Rattle.write_jobs.specs.layout_model.declared.lines.Draft.{Draft}
 use Rattle.write_jobs.specs.layout_model.Entries.{is_draft}
 use Rattle.write_jobs.specs.layout_model.EntryLaws.{FitsDraft}
-use Rattle.write_jobs.specs.image_model.Content.{byte_in, disk_of, size_of}
+use Rattle.write_jobs.specs.image_model.Content.{byte_in, disk_of}
 use Rattle.write_jobs.specs.image_model.Rules.{AreApart, HasStagingBlocks}
 use Rattle.write_jobs.specs.image_model.Volume.{extents, inode, Volume}
 use Rattle.write_jobs.specs.extent_model.Extents.{disk_at, is_within}
 use Rattle.live_step_laws.specs.file_reads.Reads.{block_in}
 use Rattle.live_step_laws.specs.file_table.Files.{Files, runs_in, size_in}
-use Rattle.live_step_laws.specs.BeginsLaws.{MayBegin, StandsBegun, with_cells, with_job}
-use Rattle.write_jobs.specs.Blocks.{GoOut, SpellWhole}
+use Rattle.live_step_laws.specs.BeginsLaws.{MayBegin, StandsBegun, with_job}
+use Rattle.write_jobs.specs.Blocks.{SpellWhole}
 use Rattle.write_jobs.specs.k_split_model.View.{View}
 use Rattle.write_jobs.specs.k_split.Order.{IsInOrder}
 use Rattle.write_plan.specs.list_laws.Members.{In}
 use Rattle.live_step_laws.proofs.live_model_proofs.OverlaysOverlays.{overlay_is_log}
 use Rattle.posix_types.specs.declared.call.Who.{Who}
-use Rattle.posix_tables.specs.declared.nodes.Node.{Node}
 use Rattle.posix_tables.specs.Bytes.{overwritten}
 use Rattle.posix_tables.specs.Nodes.{bytes_of, node_at}
 use Rattle.posix_laws.specs.FitsLaws.{length-overwritten}
@@ -41,9 +39,9 @@ use Rattle.posix_laws.specs.posix_spec.FileRows.{write_start}
 use Rattle.posix_laws.specs.posix_spec.Put.{Put, put_by}
 use Rattle.posix_laws.specs.posix_spec.State.{State}
 use Rattle.live_step_laws.specs.staging_files.declared.runs.StageRun.{StageRun}
-use Rattle.write_jobs.specs.world_model.Jobs.{AreApartJobs, front_from, IsInFront, Job, JobsStand, JobStands, live_claims, put_bytes_of, staged_block, Valid}
-use Rattle.write_jobs.specs.world_model.Stands.{FileStands, is_used, number, Stands}
-use Rattle.live_step_laws.specs.live_model.Standing.{AreJobsOf, HasItsBlocks, Kept, JobOut, reserved_run, StandsAt}
+use Rattle.write_jobs.specs.world_model.Jobs.{AreApartJobs, front_from, IsInFront, Job, JobsStand, JobStands, put_bytes_of, Valid}
+use Rattle.write_jobs.specs.world_model.Stands.{FileStands, is_used, number}
+use Rattle.live_step_laws.specs.live_model.Standing.{AreJobsOf, HasItsBlocks, JobOut, reserved_run, StandsAt}
 use Rattle.live_step_laws.specs.live_model.Jobs.{SpellCall}
 use Rattle.write_jobs.specs.Loans.{AreLentBy, AreLoansOf}
 use Rattle.write_plan.specs.declared.asks.asking.Target.{Target}
@@ -51,12 +49,12 @@ use Rattle.write_plan.specs.Drafts.{DraftsAreNext, IsNextEntry}
 use Rattle.write_plan.specs.eof_laws.block_io.Overwrites.{blocks_reached}
 use Rattle.write_plan.proofs.Numbers.{file_node}
 use Rattle.write_jobs.specs.Contents.{SpellBytes}
-use Rattle.write_jobs.specs.Jobs.{blocks_of, loan_at}
+use Rattle.write_jobs.specs.Jobs.{blocks_of}
 use Rattle.write_plan.specs.Words.{staged_in, StagesTheFile}
-use Rattle.write_begin.specs.Stages.{IsStaged, pending_of, Ready}
-use Rattle.write_begin.proofs.Making.{count_is, draft, few, kept_is, live, next, placed, staging_file}
+use Rattle.write_begin.specs.Stages.{IsStaged, pending_of, Ready, with_parts}
+use Rattle.write_begin.proofs.Making.{count_is, draft, few, kept_is, live, next, staging_file}
 use Rattle.write_begin.proofs.Numbers.{apart_runs, before_write, beside_write, part_beside, part_length, same_beside, written_there}
-use Rattle.write_begin.proofs.Present.{present_found}
+use Rattle.in_place.proofs.Present.{present_is_found}
 
 some_blocks : (d : Draft) → is_draft d ≡ true → 1 ≤ d.count
 some_blocks d is = grind (arith, nat_tests)
@@ -241,7 +239,7 @@ module _ (k : View) (files : Files) (who : Who) (target : Target) (x : List ℕ)
   front_placed : (i : ℕ) → IsInFront job i → IsSome (disk_of k.volume alive target.ino (i / 4096))
   front_placed i front =
       let side = front_is i front in
-      present_found k.volume alive target.ino (i / 4096) (valid_at (words_of k.cells) (IsImage-words_of k.cells)).stands.log files (ready.stands.flying.overlays target.ino ready.file) (ready.present i side.0 side.1)
+      (present_is_found ready.g k ready.t (with_parts ready.kept ready.staging files) true ready.n ready.s target.ino (i / 4096) ready.stands ready.file).0 (ready.present i side.0 side.1)
 
   -- what is found is a part of the whole,
   is_part : IsPartOf old whole found

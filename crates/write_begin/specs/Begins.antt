@@ -13,12 +13,16 @@ use Rattle.posix_types.specs.declared.call.Who.{Who}
 use Rattle.posix_types.specs.declared.handle.Handle.{Handle}
 use Rattle.posix_types.specs.declared.item.Item.{Item}
 use Rattle.posix_types.specs.declared.item.Outcome.{Outcome}
+use Rattle.posix_types.specs.declared.reply.Reply.{Reply}
 use Rattle.posix_tables.specs.Open.{Tables}
-use Rattle.posix_tables.specs.Outcomes.{first}
+use Rattle.posix_tables.specs.Outcomes.{answer, first}
 use Rattle.write_plan.specs.posix_laws.Views.{need_of}
-use Rattle.write_plan.specs.posix_spec.FileRows.{content, write_rows}
-use Rattle.write_plan.specs.posix_spec.Run.{run}
+use Rattle.write_plan.specs.posix_spec.FileRows.{file_number, write_rows}
+use Rattle.write_plan.specs.posix_spec.Put.{put_by}
+use Rattle.write_plan.specs.posix_spec.Run.{after_call, run}
+use Rattle.write_plan.specs.posix_spec.Step.{step}
 use Rattle.write_plan.specs.posix_spec.State.{room, State}
+use Rattle.in_place.specs.Holes.{FillsRange, LacksFree}
 use Rattle.live_step_laws.specs.staging_files.Keeps.{Staged}
 use Rattle.live_step_laws.specs.staging_files.Reserves.{IsLacking}
 use Rattle.live_step_laws.specs.world_model.JobLaws.{needs}
@@ -27,36 +31,39 @@ use Rattle.live_step_laws.specs.live_model.Losses.{KeepsWhenLost}
 use Rattle.live_step_laws.specs.live_model.Standing.{Kept, reserved_run, StandsAt}
 use Rattle.live_step_laws.specs.live_model.Jobs.{SpellCall}
 use Rattle.live_step_laws.specs.world_step_laws.Steps.{LetsJobsBe}
+use Rattle.write_plan.specs.crash_spec.Busy.{is_logged}
 use Rattle.write_plan.specs.AsksLaws.{call_of, start_of}
-use Rattle.write_plan.specs.Drafts.{staged_count}
+use Rattle.write_plan.specs.Asks.{CanMoveBy, moved_by}
+use Rattle.write_plan.specs.Plans.{placed_at, staged_run}
 use Rattle.write_plan.specs.write_jobs.Jobs.{blocks_of, JobView}
+use Rattle.write_begin.specs.Goes.{KeepsMaps}
 use Rattle.write_begin.specs.Stages.{with_parts}
 use Rattle.write_begin.specs.declared.begins.beginning.WriteBegun.{WriteBegun}
 
--- A WORLD IN WHICH THE CALL BEGINS, over this K-Split with these tables, while the log lines are out: it stands together, in strict
--- mode; the callers of the jobs that are out are others, and their files too; and together they need so many blocks.
-pub record Found (k : View) (t : Tables) (staging : Staged) (files : Files) (who : Who) (call : Call) (taken : ℕ) : Type 0 where
+-- A WORLD IN WHICH THE CALL BEGINS, over this K-Split with these tables, while the log lines are out: it stands together, in
+-- this mode; the callers of the jobs that are out are others, and their files too; and together they need so many blocks.
+pub record Found (mode : Mode) (k : View) (t : Tables) (staging : Staged) (files : Files) (who : Who) (call : Call) (taken : ℕ) : Type 0 where
   pub g : Geometry
   pub kept : Kept
   pub n : ℕ
   pub few : n < 2 ^ 62
   pub s : State
   pub stands : StandsAt g k t (with_parts kept staging files) true n s
-  pub strict : s.mode ≡ Mode.Strict
+  pub mode_is : s.mode ≡ mode
   pub beside : LetsJobsBe s (who, call) stands.numbers stands.jobs
   pub taken_is : taken ≡ needs s stands.jobs
 
 -- ---- it returns at once
 
 -- A ROW REFUSED IT, or it has no bytes: it is answered so in the state.
-abbrev pub IsAnsweredBy : Who → Handle → Option ℕ → List ℕ → View → Tables → Staged → Files → ℕ → Outcome → Type 0
-IsAnsweredBy who h at x k t staging files taken outcome =
-    (found : Found k t staging files who (call_of h at x) taken) → first (write_rows found.s who h (start_of found.s who h at) x) ≡ Some outcome
+abbrev pub IsAnsweredBy : Mode → Who → Handle → Option ℕ → List ℕ → View → Tables → Staged → Files → ℕ → Outcome → Type 0
+IsAnsweredBy mode who h at x k t staging files taken outcome =
+    (found : Found mode k t staging files who (call_of h at x) taken) → first (write_rows found.s who h (start_of found.s who h at) x) ≡ Some outcome
 
 -- no row fits
-abbrev pub IsAccepted : Who → Handle → Option ℕ → List ℕ → View → Tables → Staged → Files → ℕ → Type 0
-IsAccepted who h at x k t staging files taken =
-    (found : Found k t staging files who (call_of h at x) taken) → first (write_rows found.s who h (start_of found.s who h at) x) ≡ None
+abbrev pub IsAccepted : Mode → Who → Handle → Option ℕ → List ℕ → View → Tables → Staged → Files → ℕ → Type 0
+IsAccepted mode who h at x k t staging files taken =
+    (found : Found mode k t staging files who (call_of h at x) taken) → first (write_rows found.s who h (start_of found.s who h at) x) ≡ None
 
 -- ---- room
 
@@ -66,79 +73,123 @@ pub record LacksBeside (s : State) (who : Who) (call : Call) (jobs : List Job) (
   pub left_is : left ≡ room s - needs s jobs
   pub lacks : left < need
 
+-- what the call writes in place has its blocks; where it writes nothing there, all is as it was
+abbrev pub FillsFor : View → View → Staged → Files → ℕ → Option (ℕ × ℕ) → Type 0
+FillsFor k l staging files ino None = l ≡ k
+FillsFor k l staging files ino (Some range) = FillsRange k l staging files ino (range.0 / 4096) (blocks_for range.1 - range.0 / 4096)
+
+-- or too few blocks are free for those
+abbrev pub LacksFor : View → View → Staged → Files → ℕ → Option (ℕ × ℕ) → ℕ → ℕ → Type 0
+LacksFor k l staging files ino None need left = ⊥
+LacksFor k l staging files ino (Some range) need left = LacksFree k l staging files ino (range.0 / 4096) (blocks_for range.1 - range.0 / 4096) need left
+
+-- The jobs that are out leave enough, but too few blocks are free for its holes; nothing was done.
+pub record LacksHoles (s : State) (who : Who) (call : Call) (jobs : List Job) (k l : View) (staging : Staged) (files : Files) (ino need left : ℕ) : Type 0 where
+  pub beside : (n m : ℕ) → ¬ LacksBeside s who call jobs n m
+  pub free : LacksFor k l staging files ino (placed_at s (put_by s who call)) need left
+
 -- The jobs that are out leave enough, but the staging has no room for the blocks of its plan.
 pub record LacksStaging (s : State) (who : Who) (call : Call) (jobs : List Job) (count : ℕ) (old : Staged) (k : View) (need left : ℕ) : Type 0 where
   pub beside : (n m : ℕ) → ¬ LacksBeside s who call jobs n m
   pub lacks : IsLacking count old k need left
 
+-- Or its holes could be filled; and with them filled, which leaves l, the staging has no room for the blocks of its plan.
+pub record LacksRunOf (s : State) (who : Who) (call : Call) (jobs : List Job) (k l : View) (staging : Staged) (files : Files) (ino need left : ℕ) : Type 0 where
+  pub whole : (n m : ℕ) → ¬ LacksHoles s who call jobs k k staging files ino n m
+  pub holes : FillsFor k l staging files ino (placed_at s (put_by s who call))
+  pub run : ℕ × ℕ
+  pub run_is : staged_run s (put_by s who call) ≡ Some run
+  pub lacks : LacksStaging s who call jobs run.1 staging l need left
+
 -- ---- it is logged
 
 -- A JOB IS OUT, last of those that are out, with its entry, its blocks and the words of the call; the jobs that were out left what it
--- needs, and the staging had a run for it; the World stands together with it, in the same state; its blocks are those of its plan, and lie
--- in the file as its entry leaves it; and just its run went out.
-pub record BeginsWrite (who : Who) (h : Handle) (at : Option ℕ) (x : List ℕ) (k l : View) (t : Tables)
+-- needs, there was room for its holes, which are filled, and the staging had a run for it; the World stands together with it, in the same
+-- state; its blocks are those of its plan, and lie in the file as its entry leaves it; and just its run went out.
+pub record BeginsWrite (mode : Mode) (who : Who) (h : Handle) (at : Option ℕ) (x : List ℕ) (k l : View) (t : Tables)
     (old new : Staged) (files then : Files) (taken : ℕ) (job : JobView) (blocks : List ℕ) : Type 0 where
-  pub accepted : IsAccepted who h at x k t old files taken
-  pub enough : (found : Found k t old files who (call_of h at x) taken) (need left : ℕ) → ¬ LacksBeside found.s who (call_of h at x) found.stands.jobs need left
-  pub run : (found : Found k t old files who (call_of h at x) taken) (need left : ℕ) → ¬ IsLacking (staged_count Mode.Strict (length (content found.s who h)) (start_of found.s who h at) (length x)) old k need left
+  pub accepted : IsAccepted mode who h at x k t old files taken
+  pub enough : (found : Found mode k t old files who (call_of h at x) taken) (need left : ℕ) → ¬ LacksBeside found.s who (call_of h at x) found.stands.jobs need left
+  pub holes : (found : Found mode k t old files who (call_of h at x) taken) (need left : ℕ) → ¬ LacksHoles found.s who (call_of h at x) found.stands.jobs k k old files (file_number t who h) need left
+  pub middle : View
+  pub filled : (found : Found mode k t old files who (call_of h at x) taken) → FillsFor k middle old files (file_number t who h) (placed_at found.s (put_by found.s who (call_of h at x)))
+  pub below : KeepsMaps middle.volume l.volume files then None
+  pub run : (found : Found mode k t old files who (call_of h at x) taken) (r : ℕ × ℕ) (need left : ℕ) → staged_run found.s (put_by found.s who (call_of h at x)) ≡ Some r → ¬ IsLacking r.1 old middle need left
   pub job_who : job.who ≡ who
   pub blocks_are : blocks_of job.loans ≡ blocks
   pub fresh : job.lost ≡ false
   pub ends : job.draft.file_block + job.draft.count ≤ blocks_for job.draft.size
-  pub plan : (found : Found k t old files who (call_of h at x) taken)
-      → (job.draft.file_block ≡ start_of found.s who h at / 4096) × (job.draft.count ≡ staged_count Mode.Strict (length (content found.s who h)) (start_of found.s who h at) (length x))
+  pub plan : (found : Found mode k t old files who (call_of h at x) taken) → staged_run found.s (put_by found.s who (call_of h at x)) ≡ Some (job.draft.file_block, job.draft.count)
   pub out : new.out ≡ old.out ++ reserved_run job.draft ∷ []
-  pub words : (found : Found k t old files who (call_of h at x) taken)
+  pub words : (found : Found mode k t old files who (call_of h at x) taken)
       → SpellCall found.s (record { who = who; call = call_of h at x; draft = job.draft; blocks = blocks }) job.words
-  pub stands : (found : Found k t old files who (call_of h at x) taken)
+  pub stands : (found : Found mode k t old files who (call_of h at x) taken)
       → StandsAt found.g l t
       (record (with_parts found.kept new then) { pending = found.kept.pending ++ record { who = who; call = call_of h at x; draft = job.draft; blocks = blocks } ∷ [] }) true found.n found.s
+
+-- ---- it is written in place
+
+-- IT IS WRITTEN IN PLACE: no row refuses it, the jobs that are out left what it needs, it does not reach past the end, and there was room
+-- for its holes; nothing was staged; and with the tables moved, which is the caller's to do, the World stands together in the state after it.
+pub record WritesNow (mode : Mode) (who : Who) (h : Handle) (at : Option ℕ) (x : List ℕ) (k l : View) (t : Tables) (old new : Staged) (files then : Files) (taken : ℕ) : Type 0 where
+  pub accepted : IsAccepted mode who h at x k t old files taken
+  pub enough : (found : Found mode k t old files who (call_of h at x) taken) (need left : ℕ) → ¬ LacksBeside found.s who (call_of h at x) found.stands.jobs need left
+  pub unlogged : (found : Found mode k t old files who (call_of h at x) taken) → is_logged found.s (who, call_of h at x) ≡ false
+  pub holes : (found : Found mode k t old files who (call_of h at x) taken) (need left : ℕ) → ¬ LacksHoles found.s who (call_of h at x) found.stands.jobs k k old files (file_number t who h) need left
+  pub staging : new ≡ old
+  pub same : then ≡ files
+  pub may : (found : Found mode k t old files who (call_of h at x) taken) → CanMoveBy t then who (call_of h at x)
+  pub stands : (found : Found mode k t old files who (call_of h at x) taken)
+      → StandsAt found.g l (moved_by t then who (call_of h at x)) (with_parts found.kept new then) true (found.n + 1) (after_call found.s (who, call_of h at x))
+  pub outcome : (found : Found mode k t old files who (call_of h at x) taken) → (step found.s who (call_of h at x)).outcome ≡ answer (Reply.Count (length x))
 
 -- ---- it is not begun
 
 -- No call sees a change: each World stands together in its state still, and as many runs are out.
-pub record StaysStanding (who : Who) (call : Call) (k l : View) (t : Tables) (old new : Staged) (files then : Files) (taken : ℕ) : Type 0 where
+pub record StaysStanding (mode : Mode) (who : Who) (call : Call) (k l : View) (t : Tables) (old new : Staged) (files then : Files) (taken : ℕ) : Type 0 where
   pub runs : length new.out ≡ length old.out
-  pub stands : (found : Found k t old files who call taken) → StandsAt found.g l t (with_parts found.kept new then) true found.n found.s
+  pub stands : (found : Found mode k t old files who call taken) → StandsAt found.g l t (with_parts found.kept new then) true found.n found.s
 
--- THE ROUND IS OVER for want of space, and these two numbers say why: what the call needs and what the jobs that are out leave; or
--- what the staging needs free for the blocks of its plan, and has. Some run is out: of a job, or of an earlier write of this lap. K-Split
--- and the staging are as they were.
-pub record EndsRound (who : Who) (h : Handle) (at : Option ℕ) (x : List ℕ) (k l : View) (t : Tables)
+-- THE ROUND IS OVER for want of space, and these two numbers say why, asked in this order: what the call needs and what the jobs that
+-- are out leave; what its holes need free, and is; or, with its holes filled, what the staging needs free for the blocks of its plan, and
+-- has. Some run is out: of a job, or of an earlier write of this lap. The staging is as it was, and K-Split in the first two cases.
+pub record EndsRound (mode : Mode) (who : Who) (h : Handle) (at : Option ℕ) (x : List ℕ) (k l : View) (t : Tables)
     (old new : Staged) (files then : Files) (taken need left : ℕ) : Type 0 where
-  pub accepted : IsAccepted who h at x k t old files taken
-  pub cause : (found : Found k t old files who (call_of h at x) taken)
-      → LacksBeside found.s who (call_of h at x) found.stands.jobs need left
-      ⊎ LacksStaging found.s who (call_of h at x) found.stands.jobs (staged_count Mode.Strict (length (content found.s who h)) (start_of found.s who h at) (length x)) old k need left
+  pub accepted : IsAccepted mode who h at x k t old files taken
+  pub cause : (found : Found mode k t old files who (call_of h at x) taken)
+      → (LacksBeside found.s who (call_of h at x) found.stands.jobs need left × (l ≡ k))
+      ⊎ (LacksHoles found.s who (call_of h at x) found.stands.jobs k l old files (file_number t who h) need left
+      ⊎ LacksRunOf found.s who (call_of h at x) found.stands.jobs k l old files (file_number t who h) need left)
   pub late : old.out ≢ []
   pub same : new ≡ old
-  pub nothing : l ≡ k
-  pub stays : StaysStanding who (call_of h at x) k l t old new files then taken
+  pub stays : StaysStanding mode who (call_of h at x) k l t old new files then taken
 
 -- ---- the power
 
 -- THE POWER WENT in it, and the device is left of the one before.
-pub record LosesWrite (who : Who) (call : Call) (k l : View) (t : Tables) (staging : Staged) (files : Files) (taken : ℕ) : Type 0 where
-  pub left : (found : Found k t staging files who call taken) → IsLeftOf found.g k.cells l.cells
-  pub kept : (found : Found k t staging files who call taken) (start : State) (history : List Item) → found.s ≡ run start history
+pub record LosesWrite (mode : Mode) (who : Who) (call : Call) (k l : View) (t : Tables) (staging : Staged) (files : Files) (taken : ℕ) : Type 0 where
+  pub left : (found : Found mode k t staging files who call taken) → IsLeftOf found.g k.cells l.cells
+  pub kept : (found : Found mode k t staging files who call taken) (start : State) (history : List Item) → found.s ≡ run start history
       → KeepsWhenLost k.volume l.cells found.kept found.stands.jobs start history ((who, call) ∷ [])
 
 -- ---- all of it
 
--- WHAT `begin_write` ANSWERS AND LEAVES. A row that fits answers it, and nothing changed; it became a job; the round is over; the
--- power went; or memory ran out.
-abbrev pub IsBegun : Who → Handle → Option ℕ → List ℕ → ℕ → View → View → Tables → Staged → Staged → Files → Files → Result WriteBegun AllocError → Type 0
-IsBegun who h at x taken k l t old new files then (Ok (WriteBegun.Answered outcome)) =
-    IsAnsweredBy who h at x k t old files taken outcome × (l ≡ k) × (new ≡ old) × (then ≡ files)
-IsBegun who h at x taken k l t old new files then (Ok (WriteBegun.Job job blocks)) = BeginsWrite who h at x k l t old new files then taken job blocks.items
-IsBegun who h at x taken k l t old new files then (Ok (WriteBegun.RoundOver need left)) = EndsRound who h at x k l t old new files then taken need left
-IsBegun who h at x taken k l t old new files then (Ok WriteBegun.PowerLost) = LosesWrite who (call_of h at x) k l t old files taken
-IsBegun who h at x taken k l t old new files then (Err e) = StaysStanding who (call_of h at x) k l t old new files then taken
+-- WHAT `begin_write` ANSWERS AND LEAVES. A row that fits answers it, and nothing changed; it became a job; it was written in place; the
+-- round is over; the power went; or memory ran out.
+abbrev pub IsBegun : Mode → Who → Handle → Option ℕ → List ℕ → ℕ → View → View → Tables → Staged → Staged → Files → Files → Result WriteBegun AllocError → Type 0
+IsBegun mode who h at x taken k l t old new files then (Ok (WriteBegun.Answered outcome)) =
+    IsAnsweredBy mode who h at x k t old files taken outcome × (l ≡ k) × (new ≡ old) × (then ≡ files)
+IsBegun mode who h at x taken k l t old new files then (Ok (WriteBegun.Job job blocks)) = BeginsWrite mode who h at x k l t old new files then taken job blocks.items
+IsBegun mode who h at x taken k l t old new files then (Ok WriteBegun.Written) = WritesNow mode who h at x k l t old new files then taken
+IsBegun mode who h at x taken k l t old new files then (Ok (WriteBegun.RoundOver need left)) = EndsRound mode who h at x k l t old new files then taken need left
+IsBegun mode who h at x taken k l t old new files then (Ok WriteBegun.PowerLost) = LosesWrite mode who (call_of h at x) k l t old files taken
+IsBegun mode who h at x taken k l t old new files then (Err e) = StaysStanding mode who (call_of h at x) k l t old new files then taken
 
 -- `PowerLost` exactly where the power is off
 abbrev pub IsPaid : Supply → Result WriteBegun AllocError → Type 0
 IsPaid power (Ok (WriteBegun.Answered outcome)) = is_on power ≡ true
 IsPaid power (Ok (WriteBegun.Job job blocks)) = is_on power ≡ true
+IsPaid power (Ok WriteBegun.Written) = is_on power ≡ true
 IsPaid power (Ok (WriteBegun.RoundOver need left)) = is_on power ≡ true
 IsPaid power (Ok WriteBegun.PowerLost) = is_on power ≡ false
 IsPaid power (Err e) = is_on power ≡ true

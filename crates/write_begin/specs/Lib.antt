@@ -2,6 +2,7 @@ pub mod Stages
 pub mod Begins
 pub mod Goes
 pub mod Needs
+pub mod Rooms
 pub use Rattle.block_counts.specs as block_counts
 pub use Rattle.write_plan.specs.crash_spec
 pub use Rattle.write_plan.specs.image_model

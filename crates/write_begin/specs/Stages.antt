@@ -1,13 +1,11 @@
 -- A logged write that has its run of staging blocks becomes a job.
-use Rattle.std.specs.Prelude.{◌≡◌, ◌≢◌, ◌⊎◌, ◌≤◌, ◌<◌, ◌+◌, ◌-◌, ◌*◌, ◌/◌, ◌%◌, ◌^◌, ℕ, true, false, Contains, List, [], ◌∷◌, ◌++◌, length, drop, IsSome, Some}
+use Rattle.std.specs.Prelude.{◌≡◌, ◌≢◌, ◌≤◌, ◌<◌, ◌+◌, ◌-◌, ◌*◌, ◌/◌, ◌%◌, ◌^◌, ℕ, true, false, Contains, List, [], ◌∷◌, ◌++◌, length, drop, Some}
 use Rattle.write_jobs.specs.layout_model.declared.lines.Draft.{Draft}
 use Rattle.write_jobs.specs.layout_model.declared.lines.Kind.TheVariants.{File}
 use Rattle.write_jobs.specs.layout_model.Places.{Geometry, reserve}
 use Rattle.write_jobs.specs.image_model.Room.{unused_blocks}
-use Rattle.write_jobs.specs.image_model.Volume.{extents, inode, Volume}
-use Rattle.write_jobs.specs.extent_model.Extents.{disk_at}
-use Rattle.live_step_laws.specs.file_table.Files.{Files, runs_in, size_in, spare_in}
-use Rattle.write_plan.specs.file_overlay.Runs.{staged_at}
+use Rattle.write_jobs.specs.image_model.Volume.{inode}
+use Rattle.live_step_laws.specs.file_table.Files.{Files, size_in, spare_in}
 use Rattle.zero_fill.specs.Zeros.{ReadZero}
 use Rattle.write_jobs.specs.k_split_model.View.{View}
 use Rattle.write_plan.specs.list_laws.Members.{In}
@@ -26,6 +24,7 @@ use Rattle.write_jobs.specs.world_model.Jobs.{Job, live_claims}
 use Rattle.write_jobs.specs.world_model.Stands.{number}
 use Rattle.live_step_laws.specs.live_model.Standing.{Kept, JobOut, reserved_run, StandsAt}
 use Rattle.live_step_laws.specs.live_model.Jobs.{SpellCall}
+use Rattle.in_place.specs.Holes.{IsPresent}
 use Rattle.write_plan.specs.declared.asks.asking.Target.{Target}
 use Rattle.write_plan.specs.Drafts.{draft_in, HasRun}
 use Rattle.write_jobs.specs.Jobs.{blocks_of, JobView}
@@ -33,10 +32,6 @@ use Rattle.write_jobs.specs.Jobs.{blocks_of, JobView}
 -- what the World keeps, with this staging and these files
 abbrev pub with_parts : Kept → Staged → Files → Kept
 with_parts kept staging files = record kept { staging = staging; files = files }
-
--- the file has the block: in its map, or staged
-abbrev pub IsPresent : Volume → Files → ℕ → ℕ → Type 0
-IsPresent v files ino block = IsSome (disk_at (extents v ino) block) ⊎ IsSome (staged_at (runs_in files ino) block)
 
 -- THE CALL PUTS A WRITE OF WHICH THIS IS THE PART FROM HERE ON, into this node: the bytes before it lie below the file's old end, and end
 -- with a block; in strict mode there are none.

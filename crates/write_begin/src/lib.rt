@@ -1,13 +1,14 @@
-//! Where a write begins: rows, gap, staging, words and loans, until it is a job.
+//! Where a write begins, in strict mode or sync mode: rows, holes, gap, staging, words and loans, until it is a job; or its
+//! bytes in place, where nothing of it is staged.
 //!
-//! `begin_write` answers a row, a job with which the World stands together, or the end of the round
-//! for want of space; where memory runs out no call sees a change.
+//! `begin_write` answers a row, a job with which the World stands together, that the write is written where it lies, or the
+//! end of the round for want of space; where memory runs out no call sees a change.
 //!
 //! - `stages`: A logged write that has its staging blocks becomes a job.
-//! - `begins`: The beginning of a logged write.
+//! - `begins`: The beginning of a write.
 //!
-//! Stands on `pm_lines`, `posix_types`, `posix_laws`, `live_step_laws`, `write_jobs`, `write_plan`,
-//! `zero_fill`, `block_counts` and `posix_tables`.
+//! Stands on `data_route`, `pm_lines`, `posix_types`, `posix_laws`, `live_step_laws`, `write_jobs`, `write_plan`,
+//! `zero_fill`, `block_counts`, `posix_tables` and `in_place`.
 #![tactic(auto)]
 
 mod begins;

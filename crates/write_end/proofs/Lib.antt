@@ -4,13 +4,13 @@ mod Finishes
 mod Fliers
 mod GivesUp
 mod Laid
-mod Landed
+pub mod Landed
 mod EndsPending
 mod Settled
 pub mod LosingPending
 pub mod Jobs
 pub mod Going
-mod Cut
+pub mod Cut
 mod Dropped
 pub mod Ended
 pub mod Homes

@@ -8,6 +8,7 @@ pub mod Landing
 pub mod CrashesLaws
 pub use Rattle.k_split_laws.specs.block_io
 pub use Rattle.oplog_entry.specs.image_model
+pub use Rattle.in_place.specs as in_place
 pub use Rattle.k_split_laws.specs.k_split
 pub use Rattle.k_split_laws.specs.k_split_model
 pub use Rattle.oplog_entry.specs.layout_model

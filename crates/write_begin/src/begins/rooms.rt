@@ -1,27 +1,33 @@
 //! Room for a write, and its job.
-ghost use Rattle.std.specs.Prelude.{◌≡◌, ◌+◌, ◌≤◌, ◌^◌, true, length, Contains};
+ghost use Rattle.std.specs.Prelude.{◌≡◌, ◌≢◌, ◌+◌, ◌-◌, ◌/◌, ◌<◌, ◌≤◌, ◌^◌, true, drop, length, Contains, None, Ok};
+ghost use Rattle.block_counts.specs.Counts.{blocks_for};
 ghost use Rattle.block_counts.specs.declared.TheConstants.{LONGEST_FILE, LONGEST_WRITE};
 ghost use Rattle.write_plan.specs.pm_model.Powers.{is_on, Steps};
 ghost use Rattle.write_plan.specs.file_table.Files.{size_in, spare_in};
 ghost use Rattle.write_begin.specs.Begins.{IsPaid};
-ghost use Rattle.write_begin.specs.Goes.{FitsTarget, Goes, GoesWhole, HasRoom, IsBareAtRest, IsGone, IsJobBegun, KeepsMaps, reached_run};
+ghost use Rattle.write_begin.specs.Goes.{filled_in, FitsTarget, Goes, GoesWhole, HasRoom, IsBareAtRest, IsGone, IsJobBegun, KeepsMaps, reached_run};
 ghost use Rattle.data_route.specs.Writes.{plan_of};
+ghost use Rattle.in_place.specs.Holes.{absent_count, HasRuns, holes_need, IsHolesAnswer, IsHolesPaid};
+ghost use Rattle.zero_fill.specs.k_split_laws.k_split.MapChanges.{free_blocks_in};
 ghost use Rattle.write_plan.specs.eof_laws.block_io.Overwrites.{blocks_reached};
+ghost use Rattle.write_begin.specs.Rooms.{ArePresent, IsFrontFilled, IsTargetGone, LieWithin};
 ghost use Rattle.write_begin.specs.Stages.{Ready};
 
 use crate::begins::beginning::WriteBegun;
 use crate::laws;
 use crate::stages::{Target, clear_gap, stage_write};
+use block_counts::blocks_for;
 use data_route::{WritePlan, plan_write};
+use in_place::{Holes, fill_absent, put_in_place};
 use live_step_laws::{KSplit, StageFault, StageRun, Staging};
 use pm_lines::Power;
 use posix_types::{Mode, Who};
 use std::alloc::{AllocError, Global};
 use write_plan::{Commit, FileTable};
 
-// How many blocks the plan of a write of `len` bytes stages.
+// How many blocks a write of `len` bytes stages, of which this is the plan: those that it reaches.
 fn count_of(plan: WritePlan, target: Target, len: usize) -> u32
-    requires plan { plan ≡ plan_of Mode.Strict target.size target.start len }
+    requires plan { plan.staged ≡ reached_run target len }
     requires some { 1 ≤ len }
     requires most { len ≤ LONGEST_WRITE }
     requires fits { target.start + len ≤ LONGEST_FILE }
@@ -79,17 +85,18 @@ fn begin_reserved(
     power: &mut Power,
 ) -> Result<WriteBegun, AllocError>
     requires on { is_on power.old ≡ true }
-    requires strict { mode ≡ Mode.Strict }
-    requires goes { Goes k.old staging.old files.now who target bytes.now }
+    requires goes { Goes mode k.old staging.old files.now who target bytes.now }
     requires target { FitsTarget files.now target (length bytes.now) }
+    requires staged { (plan_of mode target.size target.start (length bytes.now)).staged
+        ≡ reached_run target (length bytes.now) }
     requires room { HasRoom mode k.old.volume files.now target (length bytes.now) }
     requires bare { IsBareAtRest staging.old }
     requires spare { 3 ≤ spare_in files.now target.ino }
     ensures steps { Steps (2 ^ 16) power.old power.new }
     ensures paid { IsPaid power.new result }
     ensures keeps { is_on power.new ≡ true
-        → KeepsMaps k.old.volume k.new.volume files.now files.now }
-    ensures gone { IsGone k.old k.new staging.old staging.new files.now files.now who target
+        → KeepsMaps k.old.volume k.new.volume files.now files.now None }
+    ensures gone { IsGone mode k.old k.new staging.old staging.new files.now files.now who target
         bytes.now (reached_run target (length bytes.now)) result }
 {
     laws::a_run_is_reserved_in_flight();
@@ -118,8 +125,153 @@ fn begin_reserved(
     }
 }
 
-/// Makes room for a write that goes on to its target, and its job: memory for its run in the file table, a run of
-/// staging blocks, and zeros between the end of the file and the block of the write.
+// Makes room for the staged part of a write, and its job: memory for its run in the file table, a run of staging blocks, and
+// zeros between the end of the file and the block of the part.
+fn begin_staged(
+    alloc: Global,
+    k: &mut KSplit,
+    staging: &mut Staging,
+    files: &mut FileTable,
+    who: Who,
+    mode: Mode,
+    target: Target,
+    bytes: &[u8],
+    power: &mut Power,
+) -> Result<WriteBegun, AllocError>
+    requires on { is_on power.old ≡ true }
+    requires goes { Goes mode k.old staging.old files.old who target bytes.now }
+    requires target { FitsTarget files.old target (length bytes.now) }
+    requires staged { (plan_of mode target.size target.start (length bytes.now)).staged
+        ≡ reached_run target (length bytes.now) }
+    requires room { HasRoom mode k.old.volume files.old target (length bytes.now) }
+    requires bare { IsBareAtRest staging.old }
+    ensures steps { Steps (2 ^ 16) power.old power.new }
+    ensures paid { IsPaid power.new result }
+    ensures keeps { is_on power.new ≡ true
+        → KeepsMaps k.old.volume k.new.volume files.old files.new None }
+    ensures gone { IsGone mode k.old k.new staging.old staging.new files.old files.new who target
+        bytes.now (reached_run target (length bytes.now)) result }
+{
+    match files.reserve(target.ino) {
+        Err(error) => Err(error),
+        Ok(()) => begin_reserved(alloc, k, staging, files, who, mode, target, bytes, power),
+    }
+}
+
+// Gives the bytes of a file from one on and before another their blocks; they lie below its end, in no more blocks than a write
+// has.
+fn fill_range(
+    alloc: Global,
+    k: &mut KSplit,
+    staging: &Staging,
+    files: &FileTable,
+    ino: u32,
+    from: u64,
+    to: u64,
+    power: &mut Power,
+) -> Result<Holes, AllocError>
+    requires on { is_on power.old ≡ true }
+    requires has { HasRuns k.old staging.now files.now ino }
+    requires some { from < to }
+    requires below { to ≤ size_in files.now ino }
+    requires fits { to ≤ LONGEST_FILE }
+    requires few { blocks_for to - from / 4096 ≤ 33 }
+    ensures steps { Steps (2 ^ 20) power.old power.new }
+    ensures paid { IsHolesPaid power.old power.new result }
+    ensures enough { result ≡ Ok Holes.Filled
+        → 1 ≤ absent_count k.old.volume files.now ino (from / 4096) (blocks_for to - from / 4096)
+        → holes_need k.old staging.now files.now ino (from / 4096) (blocks_for to - from / 4096)
+        ≤ free_blocks_in k.old }
+    ensures answer { IsHolesAnswer k.old k.new staging.now files.now ino (from / 4096)
+        (blocks_for to - from / 4096) result }
+{
+    let first = (from / 4096) as u32;
+    let count = blocks_for(to) as u32 - first;
+    fill_absent(alloc, k, staging, files, ino, first, count, power)
+}
+
+// Gives the bytes of a file that a write writes in place their blocks, where some are.
+fn fill_front(
+    alloc: Global,
+    k: &mut KSplit,
+    staging: &Staging,
+    files: &FileTable,
+    ino: u32,
+    in_place: Option<(u64, u64)>,
+    power: &mut Power,
+) -> Result<Holes, AllocError>
+    requires on { is_on power.old ≡ true }
+    requires has { HasRuns k.old staging.now files.now ino }
+    requires within { LieWithin files.now ino in_place }
+    ensures steps { Steps (2 ^ 20) power.old power.new }
+    ensures spared { in_place ≡ None → power.new ≡ power.old }
+    ensures paid { IsHolesPaid power.old power.new result }
+    ensures answer { IsFrontFilled k.old k.new staging.now files.now ino in_place result }
+{
+    match in_place {
+        None => Ok(Holes::Filled),
+        Some((from, to)) => fill_range(alloc, k, staging, files, ino, from, to, power),
+    }
+}
+
+// The bytes behind so many.
+fn bytes_behind(bytes: &[u8], skip: u64) -> &[u8]
+    requires { skip ≤ length bytes.now }
+    ensures { result.now ≡ drop skip bytes.now }
+{
+    &bytes[skip as usize..]
+}
+
+// Writes a write whose holes are filled: its staged part becomes a job; where it has none its bytes are written where they lie.
+fn begin_filled(
+    alloc: Global,
+    k: &mut KSplit,
+    staging: &mut Staging,
+    files: &mut FileTable,
+    who: Who,
+    mode: Mode,
+    target: Target,
+    bytes: &[u8],
+    power: &mut Power,
+) -> Result<WriteBegun, AllocError>
+    requires on { is_on power.old ≡ true }
+    requires mode { mode ≢ Mode.Posix }
+    requires goes { Goes mode k.old staging.old files.old who target bytes.now }
+    requires target { FitsTarget files.old target (length bytes.now) }
+    requires room { HasRoom mode k.old.volume files.old target (length bytes.now) }
+    requires bare { IsBareAtRest staging.old }
+    requires present { ArePresent k.old.volume files.old target.ino
+        (plan_of mode target.size target.start (length bytes.now)).in_place }
+    ensures steps { Steps (2 ^ 16) power.old power.new }
+    ensures paid { IsPaid power.new result }
+    ensures keeps { is_on power.new ≡ true
+        → KeepsMaps k.old.volume k.new.volume files.old files.new None }
+    ensures gone { IsGone mode k.old k.new staging.old staging.new files.old files.new who target
+        bytes.now (plan_of mode target.size target.start (length bytes.now)).staged result }
+{
+    laws::staged_blocks_are_those_of_the_part();
+    let _size = files.size(target.ino);
+    let plan = plan_write(mode, target.size, target.start, bytes.len() as u64);
+    match plan.staged {
+        None => match put_in_place(k, files, target.ino, target.start, bytes, power) {
+            Commit::Done => Ok(WriteBegun::Written),
+            Commit::PowerLost => Ok(WriteBegun::PowerLost),
+        },
+        Some((first, _)) => {
+            let start = target.start.max(4096 * u64::from(first));
+            let part = Target {
+                ino: target.ino,
+                start,
+                size: target.size,
+            };
+            let rest = bytes_behind(bytes, start - target.start);
+            begin_staged(alloc, k, staging, files, who, mode, part, rest, power)
+        }
+    }
+}
+
+/// Makes room for a write that goes on to its target: fills the holes where it writes in place; then its staged part becomes a
+/// job, or, where it has none, its bytes are written.
 pub(crate) fn begin_target(
     alloc: Global,
     k: &mut KSplit,
@@ -132,20 +284,31 @@ pub(crate) fn begin_target(
     power: &mut Power,
 ) -> Result<WriteBegun, AllocError>
     requires on { is_on power.old ≡ true }
-    requires strict { mode ≡ Mode.Strict }
-    requires goes { GoesWhole k.old staging.old files.old who target bytes.now }
+    requires mode { mode ≢ Mode.Posix }
+    requires goes { GoesWhole mode k.old staging.old files.old who target bytes.now }
     requires target { FitsTarget files.old target (length bytes.now) }
     requires room { HasRoom mode k.old.volume files.old target (length bytes.now) }
     requires bare { IsBareAtRest staging.old }
-    ensures steps { Steps (2 ^ 16) power.old power.new }
+    ensures steps { Steps (2 ^ 21) power.old power.new }
+    ensures steps_strict { mode ≡ Mode.Strict → Steps (2 ^ 16) power.old power.new }
     ensures paid { IsPaid power.new result }
     ensures keeps { is_on power.new ≡ true
-        → KeepsMaps k.old.volume k.new.volume files.old files.new }
-    ensures gone { IsGone k.old k.new staging.old staging.new files.old files.new who target
-        bytes.now (plan_of mode target.size target.start (length bytes.now)).staged result }
+        → KeepsMaps k.old.volume k.new.volume files.old files.new (filled_in mode target.ino) }
+    ensures gone { IsTargetGone mode k.old k.new staging.old staging.new files.old files.new who
+        target bytes.now (plan_of mode target.size target.start (length bytes.now)) power.new
+        result }
 {
-    match files.reserve(target.ino) {
-        Err(error) => Err(error),
-        Ok(()) => begin_reserved(alloc, k, staging, files, who, mode, target, bytes, power),
+    laws::the_first_holes_find_their_blocks();
+    let _size = files.size(target.ino);
+    let plan = plan_write(mode, target.size, target.start, bytes.len() as u64);
+    match fill_front(alloc, k, staging, files, target.ino, plan.in_place, power)? {
+        Holes::PowerLost => Ok(WriteBegun::PowerLost),
+        Holes::Lacking { need, room } => {
+            if staging.is_fresh() {
+                unreachable!()
+            }
+            Ok(WriteBegun::RoundOver { need, room })
+        }
+        Holes::Filled => begin_filled(alloc, k, staging, files, who, mode, target, bytes, power),
     }
 }

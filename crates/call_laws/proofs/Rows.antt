@@ -1,8 +1,9 @@
 -- What the rows of a write say of its step, and of what it needs.
-use Rattle.std.specs.Prelude.{zero, suc, ◌≡◌, ◌≢◌, ◌≤◌, ◌<◌, ◌+◌, ◌-◌, ◌/◌, ℕ, Bool, true, false, List, length, Option, Some, None, if◌then◌else◌, refl}
+use Rattle.std.specs.Prelude.{◌≡◌, ◌≢◌, ◌≤◌, ◌<◌, ◌+◌, ◌-◌, ℕ, Bool, true, false, List, length, max, nat_lt, Option, Some, None, if◌then◌else◌, refl}
 use Rattle.std.specs.Option.{option_map_or}
 use Rattle.std.proofs.Common.{arith, ap, ◌∙◌, sym, subst, inl, inr}
-use Rattle.write_begin.specs.layout_model.Places.{Geometry, reserve}
+use Rattle.std.proofs.lemmas.Bool.Decides.{nat_tests}
+use Rattle.write_begin.specs.layout_model.Places.{reserve}
 use Rattle.write_begin.specs.file_table.Files.{Files}
 use Rattle.write_begin.specs.k_split_model.View.{View}
 use Rattle.write_begin.specs.posix_types.declared.call.Mode.{Mode}
@@ -11,9 +12,9 @@ use Rattle.write_begin.specs.posix_types.declared.handle.Handle.{Handle}
 use Rattle.write_begin.specs.posix_types.declared.item.Outcome.{Outcome}
 use Rattle.write_begin.specs.posix_tables.Open.{Tables}
 use Rattle.write_begin.specs.posix_tables.Outcomes.{first}
-use Rattle.write_begin.specs.posix_laws.RowLaws.{Accepts-from_rows}
+use Rattle.write_begin.specs.posix_tables.Room.{growth, write_need}
 use Rattle.write_begin.specs.posix_laws.Views.{need_of}
-use Rattle.write_begin.specs.posix_spec.FileRows.{file_number, write_rows, write_start}
+use Rattle.write_begin.specs.posix_spec.FileRows.{content, file_number, write_rows, write_start}
 use Rattle.write_begin.specs.posix_spec.Put.{Put, put_by, put_unless}
 use Rattle.write_begin.specs.posix_spec.State.{alone, State}
 use Rattle.write_begin.specs.posix_spec.Step.{pwrite_done, step, stepped, Stepped, write_done}
@@ -23,10 +24,10 @@ use Rattle.world_view_laws.specs.in_flight.staging_files.Keeps.{Staged}
 use Rattle.world_view_laws.specs.in_flight.staging_files.Reserves.{has_empty, HasNoFreeRun, IsLacking, LacksFirstWay, LacksSecondWay, need, wanted}
 use Rattle.write_begin.proofs.BeginsAsked.{puts_of}
 use Rattle.write_begin.specs.write_plan.AsksLaws.{call_of, start_of}
-use Rattle.write_begin.specs.write_plan.Drafts.{staged_count}
-use Rattle.world_view_laws.specs.Begins.{HasNoRun, IsNeed, IsStagingNeed, LacksBeside, LacksStaging, Publishes, wanted_by}
-use Rattle.world_view_laws.proofs.Holes.{stages_whole}
-use Rattle.write_begin.specs.write_plan.Plans.{staged_run}
+use Rattle.write_begin.specs.posix_types.declared.call.Call.{Call}
+use Rattle.world_view_laws.specs.Begins.{HasNoRun, IsNeed, IsStagingNeed, LacksBeside, LacksStaging, Publishes, wanted_by, with_disk}
+use Rattle.world_view_laws.proofs.Holes.{stages_logged}
+use Rattle.write_begin.specs.write_plan.Plans.{size_at, staged_run}
 use Rattle.world_view_laws.specs.Views.{Disk, disk_of, state_of, WorldView}
 
 -- ---- a row fits
@@ -36,13 +37,14 @@ pub refused_step : (s : State) (who : Who) (h : Handle) (at : Option ℕ) (x : L
 refused_step s who h None x o is = ap (λ m. stepped s m (write_done alone s who h x)) is
 refused_step s who h (Some place) x o is = ap (λ m. stepped s m (pwrite_done alone s who h place x)) is
 
+pub refused_unput : (s : State) (who : Who) (h : Handle) (at : Option ℕ) (x : List ℕ) (o : Outcome) → first (write_rows s who h (start_of s who h at) x) ≡ Some o → put_by s who (call_of h at x) ≡ None
+unfolding put_by
+refused_unput s who h None x o is = ap (λ m. put_unless m (record { node = file_number s.tables who h; place = write_start s who h; bytes = x })) is
+refused_unput s who h (Some place) x o is = ap (λ m. put_unless m (record { node = file_number s.tables who h; place = place; bytes = x })) is
+
 pub refused_unlogged : (s : State) (who : Who) (h : Handle) (at : Option ℕ) (x : List ℕ) (o : Outcome) → first (write_rows s who h (start_of s who h at) x) ≡ Some o
     → is_logged s (who, call_of h at x) ≡ false
-unfolding put_by
-refused_unlogged s who h None x o is =
-    ap (λ m. option_map_or (is_logged_put s.mode s) (put_unless m (record { node = file_number s.tables who h; place = write_start s who h; bytes = x })) false) is
-refused_unlogged s who h (Some place) x o is =
-    ap (λ m. option_map_or (is_logged_put s.mode s) (put_unless m (record { node = file_number s.tables who h; place = place; bytes = x })) false) is
+refused_unlogged s who h at x o is = ap (λ m. option_map_or (is_logged_put s.mode s) m false) (refused_unput s who h at x o is)
 
 -- a write publishes nothing
 pub no_publish : (who : Who) (h : Handle) (at : Option ℕ) (x : List ℕ) (old new : WorldView) → Publishes who (call_of h at x) old new
@@ -51,11 +53,36 @@ no_publish who h (Some place) x old new = tt
 
 -- ---- none fits
 
-pub accepted_logged : (s : State) (who : Who) (h : Handle) (at : Option ℕ) (x : List ℕ) → s.mode ≡ Mode.Strict → first (write_rows s who h (start_of s who h at) x) ≡ None
-    → is_logged s (who, call_of h at x) ≡ true
-accepted_logged s who h at x strict none =
+-- one that stages blocks is logged,
+pub staged_logged : (s : State) (who : Who) (h : Handle) (at : Option ℕ) (x : List ℕ) (run : ℕ × ℕ) → s.mode ≢ Mode.Posix → first (write_rows s who h (start_of s who h at) x) ≡ None
+    → staged_run s (put_by s who (call_of h at x)) ≡ Some run → is_logged s (who, call_of h at x) ≡ true
+staged_logged s who h at x run other none is =
     let put : Put = record { node = file_number s.tables who h; place = start_of s who h at; bytes = x } in
-    ap (λ m. option_map_or (is_logged_put s.mode s) m false) (puts_of s who h at x none) ∙ ap (λ mode. is_logged_put mode s put) strict
+    ap (λ m. option_map_or (is_logged_put s.mode s) m false) (puts_of s who h at x none)
+    ∙ stages_logged s put run other (ap (staged_run s) (sym (puts_of s who h at x none)) ∙ is)
+
+-- and so is one that needs blocks
+logged_put : (m : Mode) (s : State) (put : Put) → m ≢ Mode.Posix → 1 ≤ write_need m (size_at s put) put.place (put.place + length put.bytes) → is_logged_put m s put ≡ true
+logged_put Mode.Strict s put other some = refl
+logged_put Mode.Posix s put other some = absurd (other refl)
+logged_put Mode.Sync s put other some = by (nat_lt (size_at s put) (put.place + length put.bytes)) refl where
+  by : (b : Bool) → nat_lt (size_at s put) (put.place + length put.bytes) ≡ b → is_logged_put Mode.Sync s put ≡ true
+  by true is = is
+  by false is =
+      let below : put.place + length put.bytes ≤ size_at s put = grind (arith, nat_tests, is) in
+      let same : max (size_at s put) (put.place + length put.bytes) ≡ size_at s put = omega (arith, below) in
+      let none = ap (growth (size_at s put)) same in
+      absurd (omega (arith, none, some))
+
+pub need_put : (s : State) (who : Who) (h : Handle) (at : Option ℕ) (x : List ℕ) → need_of s who (call_of h at x) ≡ write_need s.mode (length (content s who h)) (start_of s who h at) (start_of s who h at + length x)
+need_put s who h None x = refl
+need_put s who h (Some place) x = refl
+
+pub needs_logged : (s : State) (who : Who) (h : Handle) (at : Option ℕ) (x : List ℕ) → s.mode ≢ Mode.Posix → first (write_rows s who h (start_of s who h at) x) ≡ None
+    → 1 ≤ need_of s who (call_of h at x) → is_logged s (who, call_of h at x) ≡ true
+needs_logged s who h at x other none some =
+    let put : Put = record { node = file_number s.tables who h; place = start_of s who h at; bytes = x } in
+    ap (λ m. option_map_or (is_logged_put s.mode s) m false) (puts_of s who h at x none) ∙ logged_put s.mode s put other (subst (λ n. 1 ≤ n) (need_put s who h at x) some)
 
 -- what it needs is what is asked of it
 pub is_its_need : (w : WorldView) (who : Who) (h : Handle) (at : Option ℕ) (x : List ℕ) (need : ℕ) → is_logged (state_of w) (who, call_of h at x) ≡ true → need ≡ need_of (state_of w) who (call_of h at x)
@@ -69,11 +96,22 @@ pub its_need : (w : WorldView) (who : Who) (h : Handle) (at : Option ℕ) (x : L
 its_need w who h None x need is = is
 its_need w who h (Some place) x need is = is
 
--- ---- the staging lacks blocks
+-- beside the jobs that are out it needs the same, whatever stands below the calls
+need_on : (w : WorldView) (d : Disk) (who : Who) (call : Call) (need : ℕ) → IsNeed w who call need → IsNeed (with_disk w d) who call need
+need_on w d who (Call.Truncate h size) need is = is
+need_on w d who call need is = is
 
-at_least_one : (n : ℕ) → n ≢ 0 → 1 ≤ n
-at_least_one zero some = absurd (some refl)
-at_least_one (suc n) some = omega arith
+need_back : (w : WorldView) (d : Disk) (who : Who) (call : Call) (need : ℕ) → IsNeed (with_disk w d) who call need → IsNeed w who call need
+need_back w d who (Call.Truncate h size) need is = is
+need_back w d who call need is = is
+
+pub beside_on : (w : WorldView) (d : Disk) (who : Who) (call : Call) (need left : ℕ) → LacksBeside w who call need left → LacksBeside (with_disk w d) who call need left
+beside_on w d who call need left lacks = record { need_is = need_on w d who call need lacks.need_is; left_is = lacks.left_is; fits = lacks.fits; lacks = lacks.lacks }
+
+pub beside_back : (w : WorldView) (d : Disk) (who : Who) (call : Call) (need left : ℕ) → LacksBeside (with_disk w d) who call need left → LacksBeside w who call need left
+beside_back w d who call need left lacks = record { need_is = need_back w d who call need lacks.need_is; left_is = lacks.left_is; fits = lacks.fits; lacks = lacks.lacks }
+
+-- ---- the staging lacks blocks
 
 lacks_there : (staged : Staged) (k : View) (count left : ℕ) → left ≡ (if has_empty staged then free_blocks_in k else 0) → LacksSecondWay staged k count → left < need staged k count
 lacks_there staged k count left is (inl short) = by (has_empty staged) is where
@@ -89,23 +127,11 @@ second_lacks staged k count left is less = by (has_empty staged) refl is where
   by true some all = inl (omega (arith, all, less))
   by false none all = inr none
 
--- WHAT THE STAGING LACKS for a write that no row refuses, in its own words and in the World's.
-module _ (w : WorldView) (who : Who) (h : Handle) (at : Option ℕ) (x : List ℕ) (k : View) (t : Tables) (staged : Staged) (filed : Files) (none : first (write_rows (state_of w) who h (start_of (state_of w) who h at) x) ≡ None) (disk : w.disk ≡ disk_of k t staged filed)
-    (geometry : k.volume.geometry ≡ w.geometry) (strict : (state_of w).mode ≡ Mode.Strict) where
+-- WHAT THE STAGING LACKS for a run, in its own words and in the World's.
+module _ (w : WorldView) (who : Who) (h : Handle) (at : Option ℕ) (x : List ℕ) (k : View) (t : Tables) (staged : Staged) (filed : Files) (run : ℕ × ℕ)
+    (run_is : staged_run (state_of w) (put_by (state_of w) who (call_of h at x)) ≡ Some run) (disk : w.disk ≡ disk_of k t staged filed) (geometry : k.volume.geometry ≡ w.geometry) where
   abbrev count : ℕ
-  count = staged_count Mode.Strict 0 (start_of (state_of w) who h at) (length x)
-
-  abbrev put : Put
-  put = record { node = file_number (state_of w).tables who h; place = start_of (state_of w) who h at; bytes = x }
-
-  some_bytes : 1 ≤ length x
-  some_bytes = at_least_one (length x) (Accepts-from_rows (state_of w) who h (start_of (state_of w) who h at) x none).some
-
-  pub run_is : staged_run (state_of w) (put_by (state_of w) who (call_of h at x)) ≡ Some (start_of (state_of w) who h at / 4096, count)
-  run_is = ap (staged_run (state_of w)) (puts_of (state_of w) who h at x none) ∙ stages_whole (state_of w) put strict some_bytes
-
-  abbrev run : ℕ × ℕ
-  run = (start_of (state_of w) who h at / 4096, count)
+  count = run.1
 
   free_is : w.disk.free ≡ free_blocks_in k
   free_is = ap (λ (d : Disk). d.free) disk

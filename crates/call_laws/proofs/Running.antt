@@ -35,7 +35,7 @@ use Rattle.world_view_laws.proofs.Beginning.{lets, lost_call, others_lost, other
 use Rattle.world_view_laws.proofs.Ending.{no_both}
 use Rattle.world_view_laws.proofs.Losing.{lost_view}
 use Rattle.world_view_laws.proofs.open_files_proofs.Lookups.{same_opened}
-use Rattle.world_view_laws.proofs.Holes.{no_holes}
+use Rattle.world_view_laws.proofs.Holes.{no_holes, unput_holes}
 use Rattle.world_view_laws.specs.Begins.{IsNeed, IsOfOpenFile, item_of, LacksBeside, LosesCall, Publishes, Returns}
 use Rattle.world_view_laws.specs.eof_laws.Ends.{FilesEnd}
 use Rattle.world_view_laws.specs.k_split_laws.Left.{IsLeftOf}
@@ -43,29 +43,32 @@ use Rattle.world_view_laws.specs.Views.{Disk, disk_of, IsWorldOver, kept_of, sta
 use Rattle.call_laws.specs.Calls.{AtCall}
 use Rattle.call_laws.proofs.Staying.{few_calls, stands_now}
 
--- ---- calls that are not logged
+-- ---- calls that put nothing, which are not logged
 
 unlogged_by : (s : State) (who : Who) (call : Call) → put_by s who call ≡ None → is_logged s (who, call) ≡ false
 unlogged_by s who call none = ap (λ (m : Option Put). option_map_or (is_logged_put s.mode s) m false) none
 
-pub built_unlogged : (s : State) (who : Who) (call : Call) → IsBuilt call → is_logged s (who, call) ≡ false
+pub built_unput : (s : State) (who : Who) (call : Call) → IsBuilt call → put_by s who call ≡ None
 unfolding put_by
-built_unlogged s who (Call.Mkdir p) built = unlogged_by s who (Call.Mkdir p) refl
-built_unlogged s who (Call.Rmdir p) built = unlogged_by s who (Call.Rmdir p) refl
-built_unlogged s who (Call.Unlink p) built = unlogged_by s who (Call.Unlink p) refl
-built_unlogged s who (Call.Rename p q) built = unlogged_by s who (Call.Rename p q) refl
-built_unlogged s who (Call.Open h p f) built = unlogged_by s who (Call.Open h p f) refl
-built_unlogged s who (Call.Close h) built = unlogged_by s who (Call.Close h) refl
-built_unlogged s who (Call.Dup h to) built = unlogged_by s who (Call.Dup h to) refl
-built_unlogged s who (Call.Read h n) built = unlogged_by s who (Call.Read h n) refl
-built_unlogged s who (Call.Pread h o n) built = unlogged_by s who (Call.Pread h o n) refl
-built_unlogged s who (Call.Write h x) built = absurd built
-built_unlogged s who (Call.Pwrite h o x) built = absurd built
-built_unlogged s who (Call.Seek h w by) built = unlogged_by s who (Call.Seek h w by) refl
-built_unlogged s who (Call.Truncate h n) built = absurd built
-built_unlogged s who (Call.Fsync h) built = unlogged_by s who (Call.Fsync h) refl
-built_unlogged s who (Call.Stat p) built = unlogged_by s who (Call.Stat p) refl
-built_unlogged s who (Call.List p) built = unlogged_by s who (Call.List p) refl
+built_unput s who (Call.Mkdir p) built = refl
+built_unput s who (Call.Rmdir p) built = refl
+built_unput s who (Call.Unlink p) built = refl
+built_unput s who (Call.Rename p q) built = refl
+built_unput s who (Call.Open h p f) built = refl
+built_unput s who (Call.Close h) built = refl
+built_unput s who (Call.Dup h to) built = refl
+built_unput s who (Call.Read h n) built = refl
+built_unput s who (Call.Pread h o n) built = refl
+built_unput s who (Call.Write h x) built = absurd built
+built_unput s who (Call.Pwrite h o x) built = absurd built
+built_unput s who (Call.Seek h w by) built = refl
+built_unput s who (Call.Truncate h n) built = absurd built
+built_unput s who (Call.Fsync h) built = refl
+built_unput s who (Call.Stat p) built = refl
+built_unput s who (Call.List p) built = refl
+
+built_unlogged : (s : State) (who : Who) (call : Call) → IsBuilt call → is_logged s (who, call) ≡ false
+built_unlogged s who call built = unlogged_by s who call (built_unput s who call built)
 
 -- so they need no room beside the jobs that are out
 logged_need : (w : WorldView) (who : Who) (call : Call) (need : ℕ) → IsBuilt call → IsNeed w who call need → is_logged (state_of w) (who, call) ≡ true
@@ -121,15 +124,15 @@ module _ (k : View) (t : Tables) (staging : Staged) (files : Files) (w : WorldVi
     pub ran : IsWorldOver l u staging laid return_view
     ran = returned k t staging files w one.world one.begins.awake one.out who call one.begins.next one.up one.none one.begins.idle l u laid base ends stands
 
-    pub returns : (before after : Supply) → is_logged (state_of w) (who, call) ≡ false → ((need left : ℕ) → ¬ LacksBeside w who call need left) → Publishes who call w return_view → is_on after ≡ true
+    pub returns : (before after : Supply) → put_by (state_of w) who call ≡ None → ((need left : ℕ) → ¬ LacksBeside w who call need left) → Publishes who call w return_view → is_on after ≡ true
         → ((after_call (state_of w) (who, call)).entries ≡ (state_of w).entries) ⊎ TakesAStep before after → Returns who w return_view before after
-    returns before after unlogged enough published on spent = record {
+    returns before after unput enough published on spent = record {
       call = call;
       begins = one.begins;
-      unlogged = unlogged;
+      unlogged = unlogged_by (state_of w) who call unput;
       new_is = refl;
       enough = enough;
-      holes = no_holes w one.world.mode who call;
+      holes = no_holes w who call (unput_holes w who call unput);
       published = published;
       of_file = of_open_file call;
       staging = λ mode. sym (ap (λ (d : Disk). d.staging) one.world.disk_is);

@@ -20,10 +20,9 @@ use Rattle.world_view_laws.proofs.Beginning.{standing}
 use Rattle.world_view_laws.proofs.Ending.{no_both}
 use Rattle.world_view_laws.specs.declared.views.over.Over.{Over}
 use Rattle.world_view_laws.proofs.write_end_proofs.Homes.{has_blocks_out}
-use Rattle.world_view_laws.proofs.Holes.{no_holes, none_filled}
-use Rattle.world_view_laws.specs.Begins.{EndsRound, HasFilled, LacksBeside, LacksStaging, OthersStay, with_disk}
+use Rattle.world_view_laws.specs.Begins.{EndsRound, LacksBeside, LacksHoles, LacksSpace, OthersStay}
 use Rattle.world_view_laws.specs.eof_laws.Ends.{FilesEnd}
-use Rattle.world_view_laws.specs.Views.{Disk, disk_of, IsGoing, IsWorldOver, kept_of, state_of, WorldView}
+use Rattle.world_view_laws.specs.Views.{disk_of, IsGoing, IsWorldOver, kept_of, state_of, WorldView}
 use Rattle.call_laws.specs.Calls.{AtCall}
 
 no_items : {X : Type 0} → (xs : List X) → length xs ≡ 0 → xs ≡ []
@@ -42,8 +41,8 @@ module _ (k : View) (t : Tables) (staging : Staged) (files : Files) (w : WorldVi
   pub going_now : IsGoing k t staging files w
   going_now = one.world.going one.begins.awake
 
-  pub strict_now : (state_of w).mode ≡ Mode.Strict
-  strict_now = (setting_run w.start w.history).mode ∙ one.world.mode
+  pub mode_now : (state_of w).mode ≢ Mode.Posix
+  mode_now posix = one.world.mode (sym (setting_run w.start w.history).mode ∙ posix)
 
   pub few_calls : length w.history ≤ 4096
   few_calls =
@@ -152,22 +151,15 @@ module _ (k : View) (t : Tables) (staging : Staged) (files : Files) (w : WorldVi
         gone = λ off. no_both w.lost off one.begins.awake _;
       }
 
-      pub ends_round : LacksBeside w who call needed left ⊎ LacksStaging w who call needed left → disk_of l t staged laid ≡ w.disk
+      pub ends_round : LacksSpace w (disk_of l t staged laid) who call needed left → (LacksBeside w who call needed left ⊎ LacksHoles w who call needed left → disk_of l t staged laid ≡ w.disk)
           → (after : Supply) → is_on after ≡ true → EndsRound who w over_view after needed left
       ends_round cause nothing after on = record {
         call = call;
         begins = one.begins;
-        cause = elim cause [
-          | inl beside ↦ inl beside
-          | inr lacks ↦ inr (inr (record {
-            whole = no_holes w one.world.mode who call;
-            holes = subst (HasFilled w who call) (sym nothing) (none_filled w one.world.mode who call);
-            staging = subst (λ (d : Disk). LacksStaging (with_disk w d) who call needed left) (sym nothing) lacks;
-          }))
-        ];
+        cause = cause;
         late = late;
         new_is = refl;
-        nothing = λ refused. nothing;
+        nothing = nothing;
         stay = others_still (Some (Over.Space needed left)) (w.acts + 1);
         on = on;
       }
@@ -186,7 +178,7 @@ module _ (k : View) (t : Tables) (staging : Staged) (files : Files) (w : WorldVi
     lacks_over = round_over k staging files refl refl going_now.ends stands_now needed left (inl some_job)
 
     pub lacks_ends : (after : Supply) → is_on after ≡ true → EndsRound who w (record w { over = Some (Over.Space needed left); acts = w.acts + 1; disk = disk_of k t staging files }) after needed left
-    lacks_ends = ends_round k staging files refl refl going_now.ends stands_now needed left (inl some_job) (inl lacks) (sym one.world.disk_is)
+    lacks_ends = ends_round k staging files refl refl going_now.ends stands_now needed left (inl some_job) (inl lacks) (λ refused. sym one.world.disk_is)
 
   -- where no run is out nothing is staged
   pub bare_at_rest : staging.out ≡ [] → staging ≡ nothing_staged

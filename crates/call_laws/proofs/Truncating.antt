@@ -22,7 +22,6 @@ use Rattle.world_view_laws.specs.eof_laws.posix_spec.Put.{put_by}
 use Rattle.world_view_laws.specs.eof_laws.posix_spec.Run.{after_call}
 use Rattle.world_view_laws.specs.eof_laws.posix_spec.State.{room, State}
 use Rattle.world_view_laws.specs.eof_laws.posix_spec.Step.{step}
-use Rattle.world_view_laws.specs.eof_laws.crash_spec.Busy.{is_logged}
 use Rattle.world_view_laws.specs.in_flight.staging_files.Keeps.{Staged}
 use Rattle.world_view_laws.specs.in_flight.live_model.Losses.{KeepsWhenLost}
 use Rattle.world_view_laws.specs.in_flight.live_model.Standing.{StandsAt}
@@ -37,9 +36,9 @@ use Rattle.call_laws.proofs.Running.{few_next, lets_now}
 use Rattle.call_laws.specs.Calls.{AtCall}
 use Rattle.call_laws.proofs.Staying.{stands_now}
 
-pub truncate_unlogged : (s : State) (who : Who) (h : Handle) (size : ℕ) → is_logged s (who, Call.Truncate h size) ≡ false
+pub truncate_unput : (s : State) (who : Who) (h : Handle) (size : ℕ) → put_by s who (Call.Truncate h size) ≡ None
 unfolding put_by
-truncate_unlogged s who h size = refl
+truncate_unput s who h size = refl
 
 -- what no row refuses fits
 last_row : (s : State) (small : Bool) (need : ℕ) → unless small (no_blocks s need) ≡ None → small ≡ false → need ≤ room s

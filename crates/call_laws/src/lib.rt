@@ -1,4 +1,4 @@
-//! Laws of a World's calls: how one that is not logged begins and ends at once, and how a write begins.
+//! Laws of a World's calls: how one that puts no bytes begins and ends at once, and how a write begins.
 //!
 //! A World at its next call may publish first; the call returned, became a job, ended the round or
 //! lost the power, each with the World that then stands.
@@ -6,7 +6,7 @@
 //! - `calls`: How a call of a World begins and ends at once.
 //! - `puts`: How a write of a World begins.
 //!
-//! Stands on `file_publish`, `file_truncate`, `world_view_laws` and `write_begin`.
+//! Stands on `file_publish`, `file_truncate`, `in_place`, `world_view_laws` and `write_begin`.
 #![tactic(auto)]
 
 mod calls;

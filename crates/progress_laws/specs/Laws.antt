@@ -24,7 +24,7 @@ use Rattle.world_parts.specs.declared.outcomes.Begun.{Begun}
 use Rattle.world_parts.specs.k_split_model.View.{View}
 use Rattle.world_parts.specs.file_table.Files.{Files}
 use Rattle.world_parts.specs.world_view_laws.declared.views.over.Over.{Over}
-use Rattle.world_parts.specs.world_view_laws.Begins.{Begins, BeginsJob, EndsRound, IsRoundOver, LacksSpace, Returns, Waits}
+use Rattle.world_parts.specs.world_view_laws.Begins.{Begins, BeginsJob, EndsRound, IsRoundOver, LacksSpace, Returns, Waits, with_disk}
 use Rattle.world_parts.specs.world_view_laws.Rounds.{IsNextRound, IsRoundBegun, MayCheckpoint}
 use Rattle.world_parts.specs.world_view_laws.Starts.{BeginsMounted}
 use Rattle.world_parts.specs.world_view_laws.Views.{Disk, inode_on, IsWorldOver, next_of, state_of, WorldView}
@@ -103,11 +103,11 @@ FirstCallsGoOn =
     (who : Who) (old new : WorldView) (before after : Supply) → IsAtFirst old
     → ((ino : ℕ) (holder : Who) → ¬ Waits who old new before after ino holder) × ((over : Over) → ¬ IsRoundOver who old new before after over)
 
--- for it finds room;
+-- for it finds room, also with its holes filled, whatever K-Split then is over which the World stands;
 abbrev pub FirstCallsHaveRoom : Type 0
 FirstCallsHaveRoom =
-    (k : View) (t : Tables) (staging : Staged) (files : Files) (w : WorldView) (who : Who) (call : Call) (need left : ℕ)
-    → AtCall k t staging files w who call → IsAtFirst w → ¬ LacksSpace w w.disk who call need left
+    (k l : View) (t : Tables) (staging : Staged) (files : Files) (w : WorldView) (who : Who) (call : Call) (filled : Disk) (need left : ℕ)
+    → AtCall k t staging files w who call → IsAtFirst w → IsWorldOver l t staging files (with_disk w filled) → ¬ LacksSpace w filled who call need left
 
 -- so while the power stays it returns, or becomes a job.
 abbrev pub FirstCallsBegin : Type 0

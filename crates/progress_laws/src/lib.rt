@@ -4,21 +4,21 @@
 //! open file, which is published (`a_file_that_is_synced_is_published`). Where space lacks for a call, it neither returns
 //! nor becomes a job: so a Begin answers that the round is over exactly where room lacks, but where the power goes or
 //! memory runs out. And the two numbers that it tells are settled by the World: first it asks for room beside the jobs that
-//! are out, then for the holes of its file, and then for room in the staging (`the_end_of_a_round_is_settled`). The first call behind a mount or a
-//! checkpoint never ends the round (`the_first_call_of_a_round_goes_on`), since it finds room
+//! are out, then for the holes of its file, and then for room in the staging (`the_end_of_a_round_is_settled`). The first
+//! call behind a mount or a checkpoint never ends the round (`the_first_call_of_a_round_goes_on`), since it finds room
 //! (`the_first_call_of_a_round_finds_room`), and in each round that comes to a checkpoint a call returned
 //! (`rounds_get_further`): so rounds end.
 //!
 //! Files have at most the blocks that the room counts once all is published, so rounds end.
 //!
-//! Stands on `world_parts`, and on `call_laws` and `write_plan` for the first write. Nothing stands on it: it shows what the words of the layers below come to.
+//! Stands on `world_parts`, and on `call_laws`, `write_plan`, `write_begin` and `in_place` for the first write. Nothing
+//! stands on it: it shows what the words of the layers below come to.
 #![tactic(auto)]
 
 ghost use Rattle.progress_laws.specs.Laws.{BeginsAtFirst, CheckpointsAtFirst, EndsWithOnePair, FirstCallsBegin, FirstCallsGoOn, FirstCallsHaveRoom, JobsHaveRoom, MountsAtFirst, ReturnsHaveRoom, RoundsGetFurther, StrictEndsLeaveAll, SyncsPublish, WaitsAlone};
 
-use call_laws::{jobs_need_what_their_calls_do, kept_numbers_are_those_of_the_state};
-use write_begin::numbers_are_those_of_the_state;
-use write_plan::the_first_write_finds_its_blocks;
+use call_laws::kept_numbers_are_those_of_the_state;
+use write_plan::{the_first_holes_find_their_blocks, the_first_write_finds_its_blocks};
 
 /// Where an `fsync` answered ok, its handle stands for an open file, of which all that was claimed in this lap is
 /// applied.
@@ -51,9 +51,8 @@ pub fn the_first_call_of_a_round_finds_room()
     ensures { FirstCallsHaveRoom }
 {
     the_first_write_finds_its_blocks();
+    the_first_holes_find_their_blocks();
     kept_numbers_are_those_of_the_state();
-    numbers_are_those_of_the_state();
-    jobs_need_what_their_calls_do();
 }
 
 /// In each round that comes to a checkpoint, while the power was not lost, a call returned.

@@ -188,7 +188,7 @@ module _ (ending : EndBegun) (g : Geometry) (image : Words) (k : View) (t : List
   -- THE WORLD GOES ON.
   pub starts : IsWorldOver k nothing_open nothing_staged files (first_view k files t shape mode scripts)
   starts = record {
-    mode = (has_setting t shape mode).1 ∙ may.strict;
+    mode = λ posix. may.mode_is (sym (has_setting t shape mode).1 ∙ posix);
     few = may.limits.few;
     threads = may.limits.threads;
     spelled = may.limits.spelled;

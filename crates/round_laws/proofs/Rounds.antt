@@ -18,7 +18,6 @@ use Rattle.eof_laws.specs.file_table.Files.{Files}
 use Rattle.file_publish.specs.GathersLaws.{HasGathered, KeepsGathered, StandsGathered}
 use Rattle.world_view_laws.specs.file_publish.staging_files.GivesUp.{nothing_staged}
 use Rattle.world_view_laws.specs.file_publish.staging_files.Keeps.{Staged}
-use Rattle.world_view_laws.specs.world_image_laws.InLog.{not_posix}
 use Rattle.world_view_laws.specs.world_image_laws.Promised.{IsKept, KeepsPromise}
 use Rattle.world_view_laws.specs.file_publish.live_model.Standing.{JobOut, StandsAt}
 use Rattle.world_view_laws.specs.file_publish.RoundLinesLaws.{StandsHome}
@@ -222,7 +221,7 @@ module _ (turning : StandsHome) (holding : LinesHoldOut) (cutting : KeepsGathere
   pub promise_cut : KeepsPromise w.geometry m.cells w.start w.history (calls_out w)
   promise_cut =
       subst (λ (calls : List Unfinished). KeepsPromise w.geometry m.cells w.start w.history calls) (sym none_begun)
-      (cutting w.geometry l m t (kept_of w staging files) then table (length w.history) w.start w.history (not_posix w.start.mode ending.world.mode) before (few_nodes turning holding k l t staging files w lines ending)
+      (cutting w.geometry l m t (kept_of w staging files) then table (length w.history) w.start w.history ending.world.mode before (few_nodes turning holding k l t staging files w lines ending)
       (small_enough turning holding k l t staging files w lines ending) (next_lap turning holding k l t staging files w lines ending) cut)
 
   empty : length w.home ≡ 0

@@ -1,5 +1,5 @@
 -- How a World begins on a device that is mounted, each law as one statement.
-use Rattle.std.specs.Prelude.{◌≡◌, false, true, List, [], None}
+use Rattle.std.specs.Prelude.{◌≡◌, ◌≢◌, false, true, List, [], None}
 use Rattle.eof_laws.specs.pm_model.Cells.{AllHome}
 use Rattle.eof_laws.specs.pm_model.Images.{words_of}
 use Rattle.eof_laws.specs.pm_model.Words.{Words}
@@ -48,11 +48,11 @@ pub record ShowsAs (k : View) (tree : List TreeEntry) (shape : Shape) : Type 0 w
 abbrev pub WasMounted : View → Type 0
 WasMounted k = (g : Geometry) × (image : Words) × IsMounted g image k
 
--- WHAT A WORLD BEGINS WITH: a mounted device, what it shows, and scripts; the mode is strict.
+-- WHAT A WORLD BEGINS WITH: a mounted device, what it shows, and scripts; the mode is strict or sync.
 pub record MayStart (g : Geometry) (image : Words) (k : View) (tree : List TreeEntry) (shape : Shape) (mode : Mode) (scripts : Scripts) : Type 0 where
   pub mounted : IsMounted g image k
   pub shown : ShowsAs k tree shape
-  pub strict : mode ≡ Mode.Strict
+  pub mode_is : mode ≢ Mode.Posix
   pub limits : AreInLimits scripts
 
 -- the World with nothing done: its start is the state of the tree

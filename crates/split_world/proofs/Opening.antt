@@ -1,5 +1,5 @@
 -- The parts of a World that begins.
-use Rattle.std.specs.Prelude.{◌≡◌, ◌≤◌, true, false, [], length, None, vec_len}
+use Rattle.std.specs.Prelude.{◌≡◌, ◌≢◌, ◌≤◌, true, false, [], length, None, vec_len}
 use Rattle.std.specs.Vec.{vec_capacity}
 use Rattle.std.proofs.Common.{arith, ap, sym, subst}
 use Rattle.round_laws.specs.posix_spec.Tree.{start}
@@ -77,9 +77,9 @@ module _ (p : Parts) (is : IsFirst p) where
   }
 
   -- THE WORLD OF THESE PARTS begins.
-  first_kept : StartsGoing → WasMounted p.k → p.mode ≡ Mode.Strict → AreInLimits p.scripts → ShowsAs p.k p.tree p.shape → HasSizesOf p.k.volume p.data → IsKept p
-  first_kept law was strict limits shown sizes =
-      let may : MayStart was.0 was.1 p.k p.tree p.shape p.mode p.scripts = record { mounted = was.2; shown = shown; strict = strict; limits = limits } in
+  first_kept : StartsGoing → WasMounted p.k → p.mode ≢ Mode.Posix → AreInLimits p.scripts → ShowsAs p.k p.tree p.shape → HasSizesOf p.k.volume p.data → IsKept p
+  first_kept law was other limits shown sizes =
+      let may : MayStart was.0 was.1 p.k p.tree p.shape p.mode p.scripts = record { mounted = was.2; shown = shown; mode_is = other; limits = limits } in
       let going = law was.0 was.1 p.k p.tree p.shape p.mode p.scripts p.data may sizes in
       record {
         world = subst (λ (w : WorldView). IsWorldOver p.k p.files.tables p.staging p.data w) (sym first_seen)
@@ -90,5 +90,5 @@ module _ (p : Parts) (is : IsFirst p) where
       }
 
   -- and begins over the device
-  pub first_begun : StartsGoing → WasMounted p.k → p.mode ≡ Mode.Strict → AreInLimits p.scripts → ShowsAs p.k p.tree p.shape → HasSizesOf p.k.volume p.data → IsKept p × BeginsOver p.k p.mode p.scripts (seen p)
-  first_begun law was strict limits shown sizes = (first_kept law was strict limits shown sizes, record { tree = p.tree; shape = p.shape; files = p.data; shown = shown; world_is = first_seen })
+  pub first_begun : StartsGoing → WasMounted p.k → p.mode ≢ Mode.Posix → AreInLimits p.scripts → ShowsAs p.k p.tree p.shape → HasSizesOf p.k.volume p.data → IsKept p × BeginsOver p.k p.mode p.scripts (seen p)
+  first_begun law was other limits shown sizes = (first_kept law was other limits shown sizes, record { tree = p.tree; shape = p.shape; files = p.data; shown = shown; world_is = first_seen })

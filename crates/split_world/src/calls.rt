@@ -35,8 +35,10 @@ impl World {
     /// It answers, in this order: PowerLost; ScriptEnd; RoundOver where the round is over already; Busy; and else
     /// how the call went. A logged call becomes a job, or ends the round where only jobs that are out or runs of
     /// this lap leave too few blocks; a `truncate` that lengthens may end it too, where only jobs that are out leave
-    /// too few. Where only jobs that are out are the cause nothing else changes, nor does it in strict mode. All
-    /// memory of a job is taken here.
+    /// too few; so may a write that fills holes of its file. A write may fill such holes, and write in place, which
+    /// strict mode never does. Where only jobs that are out are the cause, or holes that cannot be filled, nothing else
+    /// changes, nor does it in strict mode; where the staging has no run, the holes stay filled. All memory of a job is
+    /// taken here.
     ///
     /// # Errors
     ///
@@ -61,7 +63,8 @@ impl World {
     }
 
     /// Finishes a job whose entry stands in the slot of the log: its call has acted, and its item stands at the end of
-    /// the history. The job is one of this World, out, and the slot one that it claimed. It takes no memory.
+    /// the history. In sync mode its bytes before the first block of its entry are written in place first, durable. The
+    /// job is one of this World, out, and the slot one that it claimed. It takes no memory.
     ///
     /// `PowerLost` comes exactly where the power is off, or was lost: the claim counts, and the call stays unfinished.
     ///
@@ -87,8 +90,7 @@ impl World {
             finish_off(&mut self.parts, job, slot);
             return Finished::PowerLost;
         }
-        finish_on(&mut self.parts, job, slot);
-        Finished::Done
+        finish_on(&mut self.parts, job, slot, power)
     }
 
     /// Gives a job up whose claim found no line left: its call is back at its start, and the round is over, with what

@@ -1,5 +1,5 @@
 //! How a World begins.
-ghost use Rattle.std.specs.Prelude.{◌≡◌, ◌%◌, ◌*◌, ◌<◌, ◌^◌, length, IfOk};
+ghost use Rattle.std.specs.Prelude.{◌≡◌, ◌≢◌, ◌%◌, ◌*◌, ◌<◌, ◌^◌, length, IfOk};
 ghost use Rattle.round_laws.specs.log_replay.Quiet.{IsSpent};
 ghost use Rattle.round_laws.specs.pm_model.Cells.{AllSingle};
 ghost use Rattle.posix_types.specs.declared.call.Mode.{Mode};
@@ -19,7 +19,7 @@ use world_begins::{NoMemory, Parts};
 // The parts of the World of a K-Split that was mounted: the tree of the device is the start of the history.
 fn parts_over(alloc: Global, k: KSplit, mode: Mode, scripts: Scripts) -> Result<Parts, NoMemory>
     requires mounted { WasMounted k }
-    requires strict { mode ≡ Mode.Strict }
+    requires mode { mode ≢ Mode.Posix }
     requires limits { AreInLimits scripts }
     ensures { IfOk result (λ p. IsKept p × BeginsOver k mode scripts (seen p)) }
 {
@@ -64,7 +64,7 @@ impl World {
     // The World of a K-Split that was mounted.
     fn over(alloc: Global, k: KSplit, mode: Mode, scripts: Scripts) -> Result<World, NoMemory>
         requires mounted { WasMounted k }
-        requires strict { mode ≡ Mode.Strict }
+        requires mode { mode ≢ Mode.Posix }
         requires limits { AreInLimits scripts }
         ensures { IfOk result (λ w. BeginsOver k mode scripts w) }
     {
@@ -74,7 +74,7 @@ impl World {
 
     /// Mounts a device, and begins a World on it: the tree that is found is the start of the history.
     ///
-    /// Nothing of the device is lent, and each word has one candidate. The mode is strict; the scripts have at most
+    /// Nothing of the device is lent, and each word has one candidate. The mode is strict or sync; the scripts have at most
     /// 4,096 calls and 8 threads, and the names of their paths are spelled.
     ///
     /// # Errors
@@ -92,7 +92,7 @@ impl World {
         requires single { AllSingle pm }
         requires whole { length pm % 512 ≡ 0 }
         requires fits { 8 * length pm < 2 ^ 64 }
-        requires strict { mode ≡ Mode.Strict }
+        requires mode { mode ≢ Mode.Posix }
         requires limits { AreInLimits scripts }
         ensures spent { IsSpent power.old power.new }
         ensures answer { IsWorldAnswer pm mode scripts power.old power.new result }

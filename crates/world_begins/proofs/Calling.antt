@@ -9,9 +9,9 @@ use Rattle.posix_types.specs.declared.call.Who.{Who}
 use Rattle.posix_types.specs.declared.handle.Handle.{Handle}
 use Rattle.posix_types.specs.declared.item.Outcome.{Outcome}
 use Rattle.call_laws.specs.file_truncate.Truncates as truncates
-use Rattle.call_laws.proofs.Running.{built_beside, built_unlogged, call_loses, call_lost, item_with_outcome, ran, returns, spent_by, stands_by}
+use Rattle.call_laws.proofs.Running.{built_beside, built_unput, call_loses, call_lost, item_with_outcome, ran, returns, spent_by, stands_by}
 use Rattle.call_laws.proofs.Staying.{going_now, lacks_ends, lacks_over, stands_now}
-use Rattle.call_laws.proofs.Truncating.{truncate_lacks, truncate_loses, truncate_lost, truncate_room, truncate_stands, truncate_unlogged}
+use Rattle.call_laws.proofs.Truncating.{truncate_lacks, truncate_loses, truncate_lost, truncate_room, truncate_stands, truncate_unput}
 use Rattle.world_parts.specs.in_flight.live_model.Standing.{JobOut, StandsAt}
 use Rattle.world_parts.specs.in_flight.live_model.world_model.JobLaws.{needs}
 use Rattle.call_laws.specs.write_begin.Needs.{JobsNeed, need_by}
@@ -67,7 +67,7 @@ module _ (p : Parts) (who : Who) (call : Call) (turn : IsTurn p who call) where
         let ends = keeps on in (
           returned_kept p who call turn m refl r outcome item on_m (ran p.k p.files.tables p.staging p.data (seen p) who call turn.calls q.k q.files.tables q.data ends.0 (ends.1 going_ends) stood.0),
           subst (λ (v : WorldView). Returns who (seen p) v before after) (sym (returned_seen p who call turn m refl r outcome item on_m))
-              (returns p.k p.files.tables p.staging p.data (seen p) who call turn.calls q.k q.files.tables q.data ends.0 (ends.1 going_ends) stood.0 before after (built_unlogged (state_of (seen p)) who call built) (built_beside (seen p) who call built) (published_then who call (seen p) (record (seen p) { disk = disk_of q.k q.files.tables p.staging q.data }) _ refl published) on
+              (returns p.k p.files.tables p.staging p.data (seen p) who call turn.calls q.k q.files.tables q.data ends.0 (ends.1 going_ends) stood.0 before after (built_unput (state_of (seen p)) who call built) (built_beside (seen p) who call built) (published_then who call (seen p) (record (seen p) { disk = disk_of q.k q.files.tables p.staging q.data }) _ refl published) on
               (spent_by p.k p.files.tables p.staging p.data (seen p) who call turn.calls before after spent)),
         )
 
@@ -119,7 +119,7 @@ module _ (p : Parts) (who : Who) (h : Handle) (size : ℕ) (turn : IsTurn p who 
       let its_ends = (going_now p.k p.files.tables p.staging p.data (seen p) who call turn.calls).ends in (
         returned_kept p who call turn t refl r outcome item added (ran p.k p.files.tables p.staging p.data (seen p) who call turn.calls l p.files.tables d ends.0 (ends.1 its_ends) stood.0),
         subst (λ (v : WorldView). Returns who (seen p) v before after) (sym (returned_seen p who call turn t refl r outcome item added))
-            (returns p.k p.files.tables p.staging p.data (seen p) who call turn.calls l p.files.tables d ends.0 (ends.1 its_ends) stood.0 before after (truncate_unlogged (state_of (seen p)) who h size)
+            (returns p.k p.files.tables p.staging p.data (seen p) who call turn.calls l p.files.tables d ends.0 (ends.1 its_ends) stood.0 before after (truncate_unput (state_of (seen p)) who h size)
             (truncate_room p.k p.files.tables p.staging p.data (seen p) who h size turn.calls taken needs_them answers.enough) tt on (inl stood.2)),
       )
 

@@ -1,21 +1,21 @@
 -- What is staged of the file of a call is published, and then the call goes on: how it began, from before the publishing on.
-use Rattle.std.specs.Prelude.{◌≡◌, ◌≤◌, ◌+◌, ◌^◌, ℕ, Bool, true, false, if◌then◌else◌, List, Option, None, Some, IsSome, Result, Ok, Err, refl}
+use Rattle.std.specs.Prelude.{◌≡◌, ◌≤◌, ◌+◌, ◌^◌, ℕ, Bool, true, false, if◌then◌else◌, List, Option, None, Some, IsSome, unwrap_or, Result, Ok, Err, refl}
 use Rattle.std.proofs.Common.{arith, ap, ◌∙◌, sym, subst, inl, inr}
 use Rattle.pm_lines.specs.pm_model.PowerLaws.{Steps-then}
 use Rattle.pm_lines.specs.pm_model.Powers.{Steps, Supply}
 use Rattle.world_parts.specs.k_journal.Commits.{TakesAStep}
 use Rattle.world_parts.specs.list_laws.Members.{In}
 use Rattle.posix_types.specs.declared.call.Call.{Call}
-use Rattle.posix_types.specs.declared.call.Mode.{Mode}
 use Rattle.posix_types.specs.declared.call.Who.{Who}
 use Rattle.posix_types.specs.declared.handle.Handle.{Handle}
-use Rattle.world_parts.specs.crash_spec.Busy.{is_logged}
+use Rattle.std.specs.Option.{option_map_or}
+use Rattle.world_parts.specs.crash_spec.Busy.{is_logged, is_logged_put}
 use Rattle.world_parts.specs.posix_tables.Open.{opened, Tables}
 use Rattle.world_parts.specs.in_flight.Costs.{most_of_call}
 use Rattle.world_parts.specs.posix_spec.Afforded.{moves_data}
-use Rattle.world_parts.specs.posix_spec.Put.{put_by}
+use Rattle.world_parts.specs.posix_spec.Put.{Put, put_by}
 use Rattle.world_parts.specs.posix_spec.State.{State}
-use Rattle.world_parts.proofs.world_view_laws_proofs.Holes.{no_holes}
+use Rattle.world_parts.proofs.world_view_laws_proofs.Holes.{no_holes, unput_holes}
 use Rattle.call_laws.specs.write_begin.write_plan.AsksLaws.{call_of}
 use Rattle.world_parts.specs.world_view_laws.Begins.{Begins, IsNeed, IsOfOpenFile, LosesCall, OthersStay, Publishes, Returns, WantsMemory}
 use Rattle.world_parts.specs.world_view_laws.file_calls.declared.names.outcomes.NoMemory.{NoMemory}
@@ -27,12 +27,15 @@ use Rattle.world_begins.specs.Turns.{publishes_by}
 
 -- ---- a call that puts no bytes needs no room, but for a `truncate`
 
+plain_unput : (s : State) (who : Who) (call : Call) → PutsNothing call → put_by s who call ≡ None
+unfolding put_by
+plain_unput s who (Call.Write h x) plain = absurd plain
+plain_unput s who (Call.Pwrite h place x) plain = absurd plain
+plain_unput s who call plain = refl
+
 -- it is not logged
 plain_unlogged : (s : State) (who : Who) (call : Call) → PutsNothing call → is_logged s (who, call) ≡ false
-unfolding put_by
-plain_unlogged s who (Call.Write h x) plain = absurd plain
-plain_unlogged s who (Call.Pwrite h place x) plain = absurd plain
-plain_unlogged s who call plain = refl
+plain_unlogged s who call plain = ap (λ (m : Option Put). option_map_or (is_logged_put s.mode s) m false) (plain_unput s who call plain)
 
 -- and only what is logged needs room
 logged_need : (w : WorldView) (who : Who) (call : Call) (need : ℕ) → ((h : Handle) (size : ℕ) → call ≡ Call.Truncate h size → ⊥) → IsNeed w who call need → is_logged (state_of w) (who, call) ≡ true
@@ -75,12 +78,16 @@ room_then w v who call same room = subst (λ (x : WorldView). HasRoom x who call
 
 -- ---- how it began
 
-module _ (w : WorldView) (strict : w.start.mode ≡ Mode.Strict) (d : Disk) (who : Who) (call : Call) (tables : d.tables ≡ w.disk.tables) (staging : d.staging ≡ w.disk.staging) where
+module _ (w : WorldView) (d : Disk) (who : Who) (call : Call) (begins : Begins w who call) (plain : PutsNothing call) (tables : d.tables ≡ w.disk.tables) (staging : d.staging ≡ w.disk.staging) where
   abbrev pub middle : WorldView
   middle = record w { disk = d }
 
   begins_back : (c : Call) → Begins middle who c → Begins w who c
   begins_back c begins = record { next = begins.next; going = begins.going; awake = begins.awake; idle = begins.idle }
+
+  -- it is this one
+  same_call : (c : Call) → Begins middle who c → c ≡ call
+  same_call c its = ap (λ (o : Option Call). unwrap_or o c) (sym its.next ∙ begins.next)
 
   module _ (new : WorldView) (stay : OthersStay w middle who) where
     stay_back : OthersStay middle new who → OthersStay w new who
@@ -93,7 +100,7 @@ module _ (w : WorldView) (strict : w.start.mode ≡ Mode.Strict) (d : Disk) (who
       unlogged = is.unlogged;
       new_is = is.new_is;
       enough = room_on w d w.disk who is.call is.enough;
-      holes = no_holes w strict who is.call;
+      holes = no_holes w who is.call (unput_holes w who is.call (plain_unput (state_of w) who is.call (subst PutsNothing (sym (same_call is.call is.begins)) plain)));
       published = published_from w middle new who is.call tables refl is.published;
       of_file = of_file_from w d who is.call tables is.of_file;
       staging = λ mode. is.staging mode ∙ staging;
@@ -109,20 +116,20 @@ module _ (w : WorldView) (strict : w.start.mode ≡ Mode.Strict) (d : Disk) (who
     wants_back after is = record { awake = is.awake; on = is.on; new_is = is.new_is }
 
     -- HOW IT BEGAN, from before the publishing on
-    begun_back : Begins w who call → (first before after : Supply) → (TakesAStep before after → TakesAStep first after) → (r : Result Begun NoMemory) → IsBegunNow who middle new before after r → IsBegun who w new first after r
-    begun_back begins first before after steps (Ok Begun.Done) is = returns_back first before after steps is
-    begun_back begins first before after steps (Ok (Begun.Job job)) is = absurd is
-    begun_back begins first before after steps (Ok (Begun.Busy ino holder)) is = absurd is
-    begun_back begins first before after steps (Ok (Begun.RoundOver over)) is = absurd is
-    begun_back begins first before after steps (Ok Begun.PowerLost) is = inr (inl (loses_back after is, inr (call, begins)))
-    begun_back begins first before after steps (Ok Begun.ScriptEnd) is = absurd is
-    begun_back begins first before after steps (Err e) is = inl (wants_back after is)
+    begun_back : (first before after : Supply) → (TakesAStep before after → TakesAStep first after) → (r : Result Begun NoMemory) → IsBegunNow who middle new before after r → IsBegun who w new first after r
+    begun_back first before after steps (Ok Begun.Done) is = returns_back first before after steps is
+    begun_back first before after steps (Ok (Begun.Job job)) is = absurd is
+    begun_back first before after steps (Ok (Begun.Busy ino holder)) is = absurd is
+    begun_back first before after steps (Ok (Begun.RoundOver over)) is = absurd is
+    begun_back first before after steps (Ok Begun.PowerLost) is = inr (inl (loses_back after is, inr (call, begins)))
+    begun_back first before after steps (Ok Begun.ScriptEnd) is = absurd is
+    begun_back first before after steps (Err e) is = inl (wants_back after is)
 
 -- so it is at any view that differs in what stands below alone
-pub begun_first : (w v new : WorldView) (who : Who) (call : Call) → w.start.mode ≡ Mode.Strict → Begins w who call → v ≡ record w { disk = v.disk } → v.disk.tables ≡ w.disk.tables → v.disk.staging ≡ w.disk.staging → OthersStay w v who
+pub begun_first : (w v new : WorldView) (who : Who) (call : Call) → PutsNothing call → Begins w who call → v ≡ record w { disk = v.disk } → v.disk.tables ≡ w.disk.tables → v.disk.staging ≡ w.disk.staging → OthersStay w v who
     → (first before after : Supply) → (TakesAStep before after → TakesAStep first after) → (r : Result Begun NoMemory) → IsBegunNow who v new before after r → IsBegun who w new first after r
-begun_first w v new who call strict begins same tables staging stay first before after steps r is =
-    begun_back w strict v.disk who call tables staging new (subst (λ (x : WorldView). OthersStay w x who) same stay) begins first before after steps r (subst (λ (x : WorldView). IsBegunNow who x new before after r) same is)
+begun_first w v new who call plain begins same tables staging stay first before after steps r is =
+    begun_back w v.disk who call begins plain tables staging new (subst (λ (x : WorldView). OthersStay w x who) same stay) first before after steps r (subst (λ (x : WorldView). IsBegunNow who x new before after r) same is)
 
 -- ---- a World to be dropped, and steps
 
@@ -171,7 +178,7 @@ put_moves : (h : Handle) (at : Option ℕ) (x : List ℕ) → moves_data (call_o
 put_moves h None x = refl
 put_moves h (Some place) x = refl
 
-pub put_steps : (h : Handle) (at : Option ℕ) (x : List ℕ) (call : Call) (before after : Supply) → call ≡ call_of h at x → Steps (2 ^ 16) before after → Steps (most_of_call call) before after
+pub put_steps : (h : Handle) (at : Option ℕ) (x : List ℕ) (call : Call) (before after : Supply) → call ≡ call_of h at x → Steps (2 ^ 21) before after → Steps (most_of_call call) before after
 put_steps h at x call before after is steps =
     let moves : moves_data call ≡ true = ap moves_data is ∙ put_moves h at x in
     let most : most_of_call call ≡ 2 ^ 26 = ap (λ (b : Bool). if b then 2 ^ 26 else 512) moves in

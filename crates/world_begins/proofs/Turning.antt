@@ -1,5 +1,5 @@
 -- The parts of a World at the turn of a call, and behind it.
-use Rattle.std.specs.Prelude.{◌≡◌, ◌≤◌, ◌<◌, ◌+◌, ◌^◌, ◌++◌, ℕ, true, false, List, [], ◌∷◌, length, Some, refl, slice_index, ◌*◌}
+use Rattle.std.specs.Prelude.{◌≡◌, ◌≢◌, ◌≤◌, ◌<◌, ◌+◌, ◌^◌, ◌++◌, ℕ, true, false, List, [], ◌∷◌, length, Some, refl, slice_index, ◌*◌}
 use Rattle.std.proofs.Common.{arith, ap, ◌∙◌, sym, subst, length-append}
 use Rattle.posix_types.specs.declared.call.Call.{Call}
 use Rattle.posix_types.specs.declared.call.Mode.{Mode}
@@ -12,8 +12,9 @@ use Rattle.world_parts.specs.layout_model.Places.{data_blocks}
 use Rattle.world_parts.specs.pm_model.ImageLaws.{IsImage-words_of}
 use Rattle.world_parts.specs.pm_model.Images.{words_of}
 use Rattle.world_parts.specs.posix_spec.State.{room}
+use Rattle.world_parts.specs.world_view_laws.world_image_laws.Settings.{setting_run}
 use Rattle.world_parts.specs.world_view_laws.world_image_laws.Starts.{has_setting}
-use Rattle.call_laws.proofs.Staying.{stands_now, strict_now}
+use Rattle.call_laws.proofs.Staying.{stands_now}
 use Rattle.world_parts.specs.in_flight.live_model.world_model.JobLaws.{needs}
 use Rattle.call_laws.specs.write_begin.Needs.{JobsNeed}
 use Rattle.call_laws.specs.write_begin.write_plan.Asks.{HaveLines, room_in}
@@ -53,12 +54,12 @@ module _ (p : Parts) (who : Who) (call : Call) (turn : IsTurn p who call) where
   abbrev now : StandsAt (seen p).geometry p.k p.files.tables (kept_of (seen p) p.staging p.data) true (length (seen p).history) (state_of (seen p))
   now = stands_now p.k p.files.tables p.staging p.data (seen p) who call turn.calls
 
-  -- its mode is strict, and that of its state
-  pub strict_parts : p.mode ≡ Mode.Strict
-  strict_parts = sym (has_setting p.tree p.shape p.mode).1 ∙ turn.calls.world.mode
+  -- its mode is that of its state, strict or sync
+  pub not_posix : p.mode ≢ Mode.Posix
+  not_posix posix = turn.calls.world.mode ((has_setting p.tree p.shape p.mode).1 ∙ posix)
 
   pub mode_now : p.mode ≡ (state_of (seen p)).mode
-  mode_now = strict_parts ∙ sym (strict_now p.k p.files.tables p.staging p.data (seen p) who call turn.calls)
+  mode_now = sym (has_setting p.tree p.shape p.mode).1 ∙ sym (setting_run (seen p).start (seen p).history).mode
 
   -- the jobs that are out need what their calls do
   pub needs_are : JobsNeed → needs_by p.mode p.files.tables p.data p.pending.items ≡ needs (state_of (seen p)) now.jobs

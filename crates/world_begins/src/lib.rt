@@ -7,7 +7,7 @@
 //!   it acts, and how a write begins.
 //! - `begins`: How the next call of a caller begins in a World whose power was not lost.
 //!
-//! Stands on `pm_lines`, `posix_types`, `call_laws`, `world_parts` and `layout_model`.
+//! Stands on `pm_lines`, `posix_types`, `posix_tables`, `layout_model`, `write_plan`, `call_laws` and `world_parts`.
 #![tactic(auto)]
 
 mod begins;

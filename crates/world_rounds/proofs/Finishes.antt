@@ -11,6 +11,7 @@ use Rattle.world_parts.specs.eof_laws.FinishesLaws.{EndFinished}
 use Rattle.world_parts.specs.k_split_model.View.{View}
 use Rattle.world_parts.specs.list_laws.Members.{In}
 use Rattle.world_parts.specs.pm_model.Powers.{is_on, Supply}
+use Rattle.posix_types.specs.declared.call.Call.{Call}
 use Rattle.posix_types.specs.declared.call.Who.{Who}
 use Rattle.posix_types.specs.declared.item.Outcome.{Outcome}
 use Rattle.posix_types.specs.declared.reply.Reply.{Reply}
@@ -22,12 +23,11 @@ use Rattle.world_parts.specs.in_flight.live_model.Standing.{AreOfTwoThreads, Job
 use Rattle.world_parts.specs.in_flight.live_model.Jobs.{without}
 use Rattle.world_parts.specs.in_flight.live_model.Overlays.{run_of}
 use Rattle.world_parts.specs.in_flight.world_model.Jobs.{put_bytes_of}
-use Rattle.world_parts.proofs.world_view_laws_proofs.Ending.{can_finish, finish_view, finished_on, has, has_size, has_write, others_on, strict, without_one}
+use Rattle.world_parts.proofs.world_view_laws_proofs.Ending.{can_finish, finish_view, finished_on, has, has_size, others_on, without_one}
 use Rattle.world_parts.proofs.world_view_laws_proofs.OpenCalls.{next_of_job}
 use Rattle.world_parts.proofs.world_view_laws_proofs.Finishing.{finished_ends, job_answers, one_job}
 use Rattle.world_parts.specs.world_view_laws.file_calls.open_files.State.{OpenState}
-use Rattle.posix_types.specs.declared.call.Mode.{Mode}
-use Rattle.world_parts.specs.world_view_laws.write_end.Ends.{CanFinish, HasJob, HasWrite, LeavesFinished}
+use Rattle.world_parts.specs.world_view_laws.write_end.Ends.{CanFinish, LeavesFinished}
 use Rattle.world_parts.specs.world_view_laws.Begins.{IsFilledOut}
 use Rattle.world_parts.specs.world_view_laws.Jobs.{Finishes}
 use Rattle.world_parts.specs.world_view_laws.Views.{disk_of, IsGoing, IsWorldOver, next_of, overlays_of, runs_on, state_of, WorldView}
@@ -67,9 +67,8 @@ module _ (p : Parts) (kept : IsKept p) (awake : p.lost ≡ false) (out : p.lines
   pub taken_is : (taken : JobOut) → In taken p.pending.items → taken.who ≡ job.who → taken ≡ q
   taken_is taken there own = one_job p.pending.items taken q callers there is_out.there (own ∙ is_out.who)
 
-  pub may_finish : (taken : JobOut) → taken ≡ q → CanFinish p.k job p.files.tables p.data taken.call
-  may_finish taken same =
-      subst (λ (x : JobOut). CanFinish p.k job p.files.tables p.data x.call) (sym same) (can_finish p.k p.files.tables p.staging p.data (seen p) kept.world awake out q job is_out)
+  pub may_finish : (call : Call) → call ≡ q.call → CanFinish p.k job p.files.tables p.data call
+  may_finish call same = subst (CanFinish p.k job p.files.tables p.data) (sym same) (can_finish p.k p.files.tables p.staging p.data (seen p) kept.world awake out q job is_out)
 
   pub room_for_claim : vec_len p.claims < vec_capacity p.claims
   room_for_claim = omega (arith, kept.room.claims_on awake, some_in p.pending.items q is_out.there)
@@ -88,16 +87,9 @@ module _ (p : Parts) (kept : IsKept p) (awake : p.lost ≡ false) (out : p.lines
   module _ (law : EndFinished) (slot : ℕ) (taken : JobOut) (same : taken ≡ q) (outcome : Outcome) (replied : outcome ≡ answer (Reply.Count (length (put_bytes_of taken.call))))
       (k : View) (files : OpenState) (laid : Files) (claims : Vec (ℕ × Draft) Global) (pending : Vec JobOut Global) (left : pending.items ≡ without job.who p.pending.items) (k_is : k ≡ record p.k { cells = k.cells })
       (claimed : claims.items ≡ p.claims.items ++ (slot, job.draft) ∷ []) (capacity : vec_capacity claims ≡ vec_capacity p.claims)
-      (leaves : (one : HasJob p.k job) → HasWrite p.k job p.files.tables p.data taken.call one → one.s.mode ≡ Mode.Strict → LeavesFinished p.k job one slot k files.tables laid) where
+      (left_so : LeavesFinished p.k job (has p.k p.files.tables p.staging p.data (seen p) kept.world awake out q job is_out) slot k files.tables laid) where
     abbrev pub middle : Parts
     middle = record p { k = k; files = files; «data» = laid; claims = claims; pending = pending }
-
-    left_so : LeavesFinished p.k job (has p.k p.files.tables p.staging p.data (seen p) kept.world awake out q job is_out) slot k files.tables laid
-    left_so =
-        leaves (has p.k p.files.tables p.staging p.data (seen p) kept.world awake out q job is_out)
-        (subst (λ (x : JobOut). HasWrite p.k job p.files.tables p.data x.call (has p.k p.files.tables p.staging p.data (seen p) kept.world awake out q job is_out)) (sym same)
-        (has_write p.k p.files.tables p.staging p.data (seen p) kept.world awake out q job is_out))
-        (strict p.k p.files.tables p.staging p.data (seen p) kept.world awake out q job is_out)
 
     abbrev then_view : WorldView
     then_view = finish_view p.k p.files.tables p.staging p.data (seen p) kept.world awake out q job is_out slot k files.tables laid

@@ -1,4 +1,5 @@
 mod Finishes
+mod Fronts
 pub mod Lost
 mod GivesUp
 pub mod Settles

@@ -7,7 +7,7 @@
 //! - `rounds`: The rounds of a World: they begin, end at a checkpoint or with the run, or with the
 //!   power.
 //!
-//! Stands on `posix_types`, `posix_tables`, `world_parts`, `pm_lines` and `round_laws`.
+//! Stands on `layout_model`, `posix_types`, `posix_tables`, `world_parts`, `pm_lines` and `round_laws`.
 #![tactic(auto)]
 
 mod job_ends;

@@ -19,7 +19,6 @@ use Rattle.in_flight.specs.crash_spec.Busy.{is_busy}
 use Rattle.in_flight.specs.Histories.{are_threads, Grows, grows}
 use Rattle.in_flight.specs.staging_files.Keeps.{Staged}
 use Rattle.in_flight.specs.live_model.Losses.{KeepsWhenLost}
-use Rattle.in_flight.specs.world_image_laws.InLog.{not_posix}
 use Rattle.in_flight.specs.live_model.Standing.{JobOut, StandsAt}
 use Rattle.in_flight.specs.live_model.Jobs.{SpellCall}
 use Rattle.in_flight.specs.world_step_laws.Steps.{LetsJobsBe}
@@ -212,7 +211,7 @@ module _ (k : View) (t : Tables) (staging : Staged) (files : Files) (w : WorldVi
       none_home = going.none_home;
       size = left.size ∙ size_now k t staging files w world on;
       at = lost_alike k.volume l.cells (kept_of w staging files) (kept_of w staged laid) w.start w.history ((who, call) ∷ []) refl refl refl
-          (loses_call w.geometry k t (kept_of w staging files) (length w.history) w.start w.history ((who, call) ∷ []) l.cells (not_posix w.start.mode world.mode) standing going.spelled left promise);
+          (loses_call w.geometry k t (kept_of w staging files) (length w.history) w.start w.history ((who, call) ∷ []) l.cells world.mode standing going.spelled left promise);
     }
 
     -- IT LOST ITS POWER.

@@ -1,5 +1,5 @@
 -- A job of a World ends while the power is on.
-use Rattle.std.specs.Prelude.{◌≡◌, ◌≢◌, ◌<◌, ◌+◌, ◌++◌, not, ℕ, suc, Bool, true, false, cond, List, [], ◌∷◌, length, map, Option, Some, None, AllPairs, refl}
+use Rattle.std.specs.Prelude.{◌≡◌, ◌≢◌, ◌<◌, ◌≤◌, ◌+◌, ◌++◌, not, ℕ, suc, Bool, true, false, cond, List, [], ◌∷◌, length, map, Option, Some, None, AllPairs, slice_index, refl}
 use Rattle.std.proofs.Common.{arith, ap, ◌∙◌, sym, subst, inl, inr, length-append}
 use Rattle.eof_laws.specs.pm_model.Cells.{cell, is_lent}
 use Rattle.eof_laws.specs.pm_model.ImageLaws.{IsImage-words_of}
@@ -26,8 +26,10 @@ use Rattle.in_flight.specs.live_model.Standing.{AreOfTwoThreads, IsSpellable, Jo
 use Rattle.in_flight.specs.live_model.Jobs.{SpellCall, without}
 use Rattle.eof_laws.specs.posix_types.declared.call.Mode.{Mode}
 use Rattle.write_end.specs.Ends.{begun_by, CanFinish, CanGiveUp, HasJob, HasWrite, LeavesFinished, LeavesGivenUp}
+use Rattle.write_end.specs.Landing.{front_end}
 use Rattle.in_flight.specs.write_jobs.Jobs.{FilledView}
 use Rattle.write_end.proofs.Homes.{has_blocks_out}
+use Rattle.write_end.proofs.Jobs.{block_of, some_blocks}
 use Rattle.write_end.proofs.LosingPending.{job_of, stands_of}
 use Rattle.in_flight.proofs.CountsCounts.{pairs}
 use Rattle.in_flight.proofs.CountsJobs.{same_who-refl, spellable}
@@ -96,11 +98,14 @@ module _ (k : View) (t : Tables) (staging : Staged) (files : Files) (w : WorldVi
     out = record { there = is_out.there; who = is_out.who; draft = is_out.draft; blocks = is_out.blocks; words = is_out.words };
   }
 
-  pub strict : has.s.mode ≡ Mode.Strict
-  strict = (setting_run w.start w.history).mode ∙ world.mode
+  pub mode_is : has.s.mode ≡ w.start.mode
+  mode_is = (setting_run w.start w.history).mode
+
+  pub other : w.start.mode ≢ Mode.Posix
+  other = world.mode
 
   pub has_write : HasWrite k job t files p.call has
-  has_write = record { tables = refl; files_are = refl; call_is = refl; mode = λ posix. (let never : Mode.Strict ≡ Mode.Posix = sym strict ∙ posix in cc) }
+  has_write = record { tables = refl; files_are = refl; call_is = refl; mode = λ posix. other (sym mode_is ∙ posix) }
 
   pub can_finish : CanFinish k job t files p.call
   can_finish = (has, has_write)
@@ -108,7 +113,7 @@ module _ (k : View) (t : Tables) (staging : Staged) (files : Files) (w : WorldVi
   pub can_give_up : CanGiveUp k job staging
   can_give_up = (has, refl)
 
-  -- its file has a size
+  -- its file has a size, and its blocks begin within it
   pub has_size : p.draft.ino < length files.sizes
   has_size =
       let its = job_of w.pending standing.jobs p standing.jobs_are is_out.there in
@@ -116,6 +121,22 @@ module _ (k : View) (t : Tables) (staging : Staged) (files : Files) (w : WorldVi
       let stood = stands_of k.volume _ _ _ (state_of w) standing.jobs its.job world_on.valid.out its.there in
       let low = used_below k.volume its.job.draft.ino (live_used k.volume its.job.draft stood.alive) in
       omega (arith, low, standing.sizes.count, ap (λ (d : Draft). d.ino) its.draft)
+
+  some_block : 0 < p.draft.count
+  some_block =
+      let its = job_of w.pending standing.jobs p standing.jobs_are is_out.there in
+      let world_on = standing.flying.device.world (words_of k.cells) (IsImage-words_of k.cells) in
+      let stood = stands_of k.volume _ _ _ (state_of w) standing.jobs its.job world_on.valid.out its.there in
+      subst (λ (d : Draft). 0 < d.count) its.draft (some_blocks its.job.draft stood.draft)
+
+  pub begins_within : front_end p.draft ≤ p.draft.size
+  begins_within = omega (arith, going.drafts_end p is_out.there, some_block)
+
+  -- its first block is one of its blocks
+  pub first_block : In (slice_index p.blocks 0) p.blocks
+  first_block =
+      let blocks = standing.blocks p is_out.there in
+      block_of k.volume p (slice_index p.blocks 0) blocks (0, some_block, blocks.each 0 some_block)
 
   -- the blocks of all jobs are out, and so no block of another job was at home
   pub homes_on : (new : WorldView) → HomesStay p w new

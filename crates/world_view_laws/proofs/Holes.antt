@@ -15,7 +15,7 @@ use Rattle.in_flight.specs.posix_spec.Afforded.{moves_data}
 use Rattle.in_flight.specs.posix_spec.Put.{Put, put_by}
 use Rattle.in_flight.specs.posix_spec.State.{State}
 use Rattle.in_flight.specs.world_image_laws.Settings.{setting_run}
-use Rattle.world_view_laws.specs.Begins.{HasFilled, LacksHoles, with_disk}
+use Rattle.world_view_laws.specs.Begins.{HasFilled, LacksHoles}
 use Rattle.write_plan.specs.Plans.{placed_at, size_at, staged_run}
 use Rattle.world_view_laws.specs.Holes.{absent_in, file_of, holes_at, holes_of}
 use Rattle.world_view_laws.specs.Views.{state_of, WorldView}
@@ -92,29 +92,34 @@ none_at : (w : WorldView) (ino : Option ℕ) (range : Option (ℕ × ℕ)) → r
 none_at w None range is = refl
 none_at w (Some ino) range is = ap (λ (r : Option (ℕ × ℕ)). option_map_or (absent_in w.start.mode w.disk ino) r 0) is
 
--- STRICT MODE HAS NO HOLE TO FILL,
+-- STRICT MODE HAS NO HOLE TO FILL.
 pub none_to_fill : (w : WorldView) → w.start.mode ≡ Mode.Strict → (who : Who) (call : Call) → holes_of w who call ≡ 0
 none_to_fill w strict who call =
     none_at w (file_of w who call) (placed_at (state_of w) (put_by (state_of w) who call)) (placed_none (state_of w) ((setting_run w.start w.history).mode ∙ strict) (put_by (state_of w) who call))
 
--- lacks none,
-pub no_holes : (w : WorldView) → w.start.mode ≡ Mode.Strict → (who : Who) (call : Call) (need left : ℕ) → LacksHoles w who call need left → ⊥
-no_holes w strict who call need left lacks =
-    let none : holes_of w who call ≡ 0 = none_to_fill w strict who call in
-    let some : 1 ≤ holes_of w who call = lacks.some in
-    omega (arith, none, some)
+-- NOR HAS ONE, in whatever mode, that writes nothing in place,
+pub unplaced_holes : (w : WorldView) (who : Who) (call : Call) → placed_at (state_of w) (put_by (state_of w) who call) ≡ None → holes_of w who call ≡ 0
+unplaced_holes w who call none = none_at w (file_of w who call) (placed_at (state_of w) (put_by (state_of w) who call)) none
+
+-- or puts nothing.
+pub unput_holes : (w : WorldView) (who : Who) (call : Call) → put_by (state_of w) who call ≡ None → holes_of w who call ≡ 0
+unput_holes w who call none = unplaced_holes w who call (ap (placed_at (state_of w)) none)
+
+-- A CALL WITHOUT HOLES lacks no blocks for them,
+pub no_holes : (w : WorldView) (who : Who) (call : Call) → holes_of w who call ≡ 0 → (need left : ℕ) → LacksHoles w who call need left → ⊥
+no_holes w who call none need left lacks = (let some : 1 ≤ holes_of w who call = lacks.some in omega (arith, none, some))
 
 -- and with nothing filled all is filled.
-pub none_filled : (w : WorldView) → w.start.mode ≡ Mode.Strict → (who : Who) (call : Call) → HasFilled w who call w.disk
-none_filled w strict who call = record {
+pub none_filled : (w : WorldView) (who : Who) (call : Call) → holes_of w who call ≡ 0 → HasFilled w who call w.disk
+none_filled w who call none = record {
   rest = refl;
   none = λ is. refl;
-  filled = none_to_fill (with_disk w w.disk) strict who call;
+  filled = none;
   lines = λ ino. record { kind = refl; generation = refl; size = refl; applied = refl };
   others = λ ino apart. (refl, refl);
   kept = λ ino block b at. at;
   new = λ ino block b at. inl at;
-  free = λ other ino own. (let none = none_to_fill w strict who call in omega (arith, none));
+  free = λ other ino own. omega (arith, none);
 }
 
 -- A CALL WITH HOLES MOVES DATA.

@@ -1,6 +1,7 @@
 pub mod OpenCalls
 pub mod Losing
 pub mod Ending
+pub mod Landing
 pub mod Finishing
 pub mod Rounds
 pub mod Handing

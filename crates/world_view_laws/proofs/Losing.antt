@@ -17,7 +17,6 @@ use Rattle.in_flight.specs.posix_spec.Run.{Unfinished}
 use Rattle.in_flight.specs.posix_spec.Unfinished.{AreUnfinished}
 use Rattle.in_flight.specs.staging_files.Keeps.{Staged}
 use Rattle.in_flight.specs.world_image_laws.Promised.{IsKept}
-use Rattle.in_flight.specs.world_image_laws.InLog.{not_posix}
 use Rattle.in_flight.specs.live_model.Jobs.{without}
 use Rattle.in_flight.specs.live_model.Standing.{JobOut, StandsAt}
 use Rattle.write_end.specs.oplog_entry.declared.claims.Full.{Full}
@@ -107,10 +106,10 @@ module _ (k : View) (t : Tables) (staging : Staged) (files : Files) (w : WorldVi
 
   pub off_none : (acts : ℕ) → w.lines_out ≡ true → IsLostOut staging files (lost_view w [] acts (disk_of k t staging files))
   off_none acts out =
-      off_out [] acts (found_lost w.geometry k t (kept_of w staging files) (length w.history) w.start w.history (not_posix w.start.mode world.mode) (stands_as true out) going.spelled)
+      off_out [] acts (found_lost w.geometry k t (kept_of w staging files) (length w.history) w.start w.history world.mode (stands_as true out) going.spelled)
 
   pub off_call : (acts : ℕ) (c : Unfinished) → w.lines_out ≡ true → IsLostOut staging files (lost_view w (c ∷ []) acts (disk_of k t staging files))
-  off_call acts c out = off_out (c ∷ []) acts (found_at_call w.geometry k t (kept_of w staging files) (length w.history) w.start w.history c (not_posix w.start.mode world.mode) (stands_as true out) going.spelled)
+  off_call acts c out = off_out (c ∷ []) acts (found_at_call w.geometry k t (kept_of w staging files) (length w.history) w.start w.history c world.mode (stands_as true out) going.spelled)
 
   -- with them at home
   empty : length w.home ≡ 0

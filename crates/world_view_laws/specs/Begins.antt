@@ -10,6 +10,7 @@ use Rattle.in_flight.specs.posix_types.declared.call.Who.{Who}
 use Rattle.in_flight.specs.posix_types.declared.item.Item.{Item}
 use Rattle.in_flight.specs.posix_types.declared.reply.Reply.{Reply}
 use Rattle.in_flight.specs.layout_model.declared.lines.Draft.{Draft}
+use Rattle.in_flight.specs.layout_model.declared.lines.Kind.TheVariants.{File}
 use Rattle.in_flight.specs.block_counts.Counts.{blocks_for, chains_for}
 use Rattle.file_calls.specs.extent_model.Extents.{disk_at}
 use Rattle.file_calls.specs.live_step_laws.world_write_laws.HolesLaws.{KeepsLine}
@@ -138,6 +139,13 @@ pub record HasFilled (w : WorldView) (who : Who) (call : Call) (disk : Disk) : T
   pub free : w.start.mode ≢ Mode.Posix → (ino : ℕ) → file_of w who call ≡ Some ino
       → disk.free + holes_of w who call + chains_for (length (map_on disk ino)) ≡ w.disk.free + chains_for (length (map_on w.disk ino))
 
+-- OF EACH FILE the map and the line are the same, but for the place of the chain, and what is staged of it, and its size.
+pub record KeepsFiles (d e : Disk) : Type 0 where
+  pub lines : (ino : ℕ) → (inode_on d ino).kind ≡ File → KeepsLine (inode_on d ino) (inode_on e ino)
+  pub maps : (ino : ℕ) → (inode_on d ino).kind ≡ File → map_on e ino ≡ map_on d ino
+  pub overlays : e.overlays ≡ d.overlays
+  pub sizes : e.sizes ≡ d.sizes
+
 -- Or its holes could be filled; and with them filled, which leaves this disk, the staging has no room.
 pub record LacksRun (w : WorldView) (filled : Disk) (who : Who) (call : Call) (need left : ℕ) : Type 0 where
   pub whole : (n m : ℕ) → ¬ LacksHoles w who call n m
@@ -175,7 +183,7 @@ IsOfOpenFile who (Call.Fsync h) w = (step (state_of w) who (Call.Fsync h)).outco
 IsOfOpenFile who call w = Unit {0}
 
 -- IT RETURNED: it is not logged, the jobs that are out left what it needs, its holes could be filled, and its item stands at the end of the
--- history. But in POSIX mode nothing was staged for it. It made, removed or moved no name, or took a step.
+-- history. Outside POSIX mode nothing was staged for it. It made, removed or moved no name, or took a step.
 pub record Returns (who : Who) (old new : WorldView) (before after : Supply) : Type 0 where
   pub call : Call
   pub begins : Begins old who call
@@ -196,7 +204,8 @@ IsOfPlan None d = ⊥
 IsOfPlan (Some run) d = (d.file_block ≡ run.0) × (d.count ≡ run.1)
 
 -- IT IS LOGGED, and there was room for it, with its holes filled; a job is out, the last one, with the blocks of its plan, and no other run
--- went out; its entry is that of no other job; nothing has returned.
+-- went out; but for cells, free blocks, the staging files and the run that went out, what stands below is as with the holes filled; its entry
+-- is that of no other job; nothing has returned.
 pub record BeginsJob (who : Who) (old new : WorldView) (after : Supply) (job : JobView) : Type 0 where
   pub call : Call
   pub begins : Begins old who call
@@ -205,6 +214,7 @@ pub record BeginsJob (who : Who) (old new : WorldView) (after : Supply) (job : J
   pub holes : (need left : ℕ) → ¬ LacksHoles old who call need left
   pub middle : Disk
   pub filled : HasFilled old who call middle
+  pub below : KeepsFiles middle new.disk
   pub run : (need left : ℕ) → ¬ LacksStaging (with_disk old middle) who call need left
   pub pending : JobOut
   pub who_is : pending.who ≡ who

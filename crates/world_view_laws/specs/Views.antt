@@ -212,10 +212,10 @@ pub record AreCounted (w : WorldView) : Type 0 where
   pub acts_going : w.lost ≡ false → w.over ≡ None → w.acts ≤ most_acts w
   pub low : w.base ≤ 2 ^ 62 + w.geometry.log * (w.settled + 1)
 
--- THE WORLD. The mode is strict; the history is legal and follows the scripts; of the calls that have begun and not returned each is
+-- THE WORLD. The mode is strict or sync; the history is legal and follows the scripts; of the calls that have begun and not returned each is
 -- the next of its caller's script, which has no other; and it goes on, or the power went.
 pub record IsWorldOver (k : View) (t : Tables) (staging : Staged) (files : Files) (w : WorldView) : Type 0 where
-  pub mode : w.start.mode ≡ Mode.Strict
+  pub mode : w.start.mode ≢ Mode.Posix
   pub few : call_count w.scripts ≤ 4096
   pub threads : length w.scripts.threads ≤ 8
   pub spelled : AreSpelledCalls w.scripts

@@ -22,7 +22,7 @@ pub use turns::{
 pub use views::{
     Commit, Counters, Filled, FilledJob, Full, Job, JobOut, KSplit, NoMemory, OpenFiles, Over,
     Told, a_crash_keeps_the_promise, call_at, calls_made, count_call, finish_write, fsync, gather,
-    give_up_write, keeper, log_lines_come_home, log_lines_go_out, next_in, no_calls, place_of,
-    publishing_leaves_what_is_out, run_call, script_length, settle_blocks, take_job, waits_for,
-    what_stands_may_be_published,
+    give_up_write, keeper, log_lines_come_home, log_lines_go_out, move_by, next_in, no_calls,
+    place_front, place_of, publishing_leaves_what_is_out, run_call, script_length, settle_blocks,
+    take_job, waits_for, what_stands_may_be_published,
 };

@@ -14,8 +14,8 @@ pub fn jobs_that_ended_stay_home()
 
 pub use crate::views::{
     Counters, Full, JobOut, NoMemory, OpenFiles, Over, Told, call_at, calls_made, count_call,
-    finish_write, fsync, gather, give_up_write, keeper, next_in, place_of, run_call, settle_blocks,
-    take_job, waits_for, what_stands_may_be_published,
+    finish_write, fsync, gather, give_up_write, keeper, move_by, next_in, place_front, place_of,
+    run_call, settle_blocks, take_job, waits_for, what_stands_may_be_published,
 };
 pub use eof_laws::{
     Commit, FileTable, FilledJob, Geometry, Job, KSplit, Staging,

@@ -21,6 +21,6 @@ pub use in_flight::{
 };
 pub use over::Over;
 pub use write_end::{
-    Full, a_crash_keeps_the_promise, finish_write, give_up_write, publishing_leaves_what_is_out,
-    settle_blocks,
+    Full, a_crash_keeps_the_promise, finish_write, give_up_write, move_by, place_front,
+    publishing_leaves_what_is_out, settle_blocks,
 };

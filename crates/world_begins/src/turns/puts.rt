@@ -1,5 +1,5 @@
 //! A write begins.
-ghost use Rattle.std.specs.Prelude.{◌≡◌, ◌^◌, true, MatchOption};
+ghost use Rattle.std.specs.Prelude.{◌≡◌, ◌^◌, length, true, MatchOption};
 ghost use Rattle.world_parts.specs.pm_model.Powers.{is_on, Steps};
 ghost use Rattle.call_laws.specs.write_begin.write_plan.AsksLaws.{call_of};
 ghost use Rattle.world_parts.specs.Answers.{IsBegun};
@@ -11,9 +11,11 @@ use crate::laws;
 use crate::turns::turns::{end_round, lose_call, needs_now};
 use call_laws::{WriteBegun, begin_write};
 use pm_lines::Power;
-use posix_types::{Call, Data, Handle, Who};
+use posix_tables::outcomes::answer;
+use posix_types::{Call, Data, Handle, Reply, Who};
 use std::alloc::Global;
 use world_parts::{Begun, JobOut, NoMemory, Over, Parts, add};
+use write_plan::move_by;
 
 /// A write, as its call says it.
 #[derive(Clone, Copy)]
@@ -59,8 +61,16 @@ pub fn put_of(call: &Call) -> Option<Put<'_>>
     }
 }
 
-/// A write begins: it returns, becomes a job, ends the round, or loses its power. Its bytes are not copied but into the words
-/// of its job. All memory of a job is taken here.
+// How many bytes these are.
+fn count_of(bytes: &Data) -> u64
+    ensures { result ≡ length bytes.now }
+{
+    bytes.bytes.len() as u64
+}
+
+/// A write begins: it returns, written in place where it is not logged, becomes a job, ends the round, or loses its power.
+/// Where it writes in place, the holes of its file there are filled first; if only the staging has no room, they stay
+/// filled. Its bytes are not copied but into the words of its job. All memory of a job is taken here.
 ///
 /// # Errors
 ///
@@ -68,7 +78,7 @@ pub fn put_of(call: &Call) -> Option<Put<'_>>
 ///
 /// # Steps
 ///
-/// At most 2^16.
+/// At most 2^21.
 pub fn begin_put(
     p: &mut Parts,
     alloc: Global,
@@ -80,10 +90,11 @@ pub fn begin_put(
     requires turn { IsTurn p.old who call }
     requires puts { PutsNothing call → ⊥ }
     ensures kept { p.new.usable ≡ true → IsKept p.new }
-    ensures steps { Steps (2 ^ 16) power.old power.new }
+    ensures steps { Steps (2 ^ 21) power.old power.new }
     ensures begun { IsBegun who (seen p.old) (seen p.new) power.old power.new result }
 {
     laws::jobs_need_what_their_calls_do();
+    laws::kept_numbers_are_those_of_the_state();
     let needs = needs_now(p, who, &call);
     let Some(put) = put_of(&call) else {
         unreachable!();
@@ -103,6 +114,12 @@ pub fn begin_put(
         power,
     ) {
         Ok(WriteBegun::Answered(outcome)) => {
+            add(p, who, call, outcome);
+            Ok(Begun::Done)
+        }
+        Ok(WriteBegun::Written) => {
+            let outcome = answer(Reply::Count(count_of(put.bytes)));
+            move_by(&mut p.files, &p.data, who, &call);
             add(p, who, call, outcome);
             Ok(Begun::Done)
         }

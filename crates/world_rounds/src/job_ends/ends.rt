@@ -1,17 +1,26 @@
 //! A job ends: it finishes, or is given up.
-ghost use Rattle.std.specs.Prelude.{◌≡◌, false, true, length};
-ghost use Rattle.world_parts.specs.pm_model.Powers.{is_on, Supply};
+ghost use Rattle.std.specs.Prelude.{◌≡◌, ◌≢◌, ◌≤◌, ◌^◌, AllPairs, false, true, length};
+ghost use Rattle.posix_types.specs.declared.call.Mode.{Mode};
+ghost use Rattle.world_parts.specs.list_laws.Members.{In};
+ghost use Rattle.world_parts.specs.pm_model.Powers.{is_on, Steps, Supply};
 ghost use Rattle.world_parts.specs.in_flight.live_model.Standing as standing;
 ghost use Rattle.world_parts.specs.in_flight.world_model.Jobs.{put_bytes_of};
 ghost use Rattle.world_parts.specs.world_view_laws.Begins.{IsFilledOut};
-ghost use Rattle.world_parts.specs.world_view_laws.Jobs.{over_by, Finishes, GivesUp, IsOfWorld, LosesFinish};
+ghost use Rattle.world_parts.specs.world_view_laws.Jobs.{over_by, GivesUp, IsOfWorld, LosesFinish};
+ghost use Rattle.world_parts.specs.world_view_laws.write_end.in_place.Placing.{CanPlace};
+ghost use Rattle.world_parts.specs.world_view_laws.write_end.in_place.zero_fill.Gaps.{IsClearPaid};
+ghost use Rattle.world_parts.specs.world_view_laws.write_end.Landing.{front_bytes, front_end, front_start, IsFrontAnswer};
+ghost use Rattle.world_parts.specs.Answers.{IsFinished};
 ghost use Rattle.world_parts.specs.Seen.{seen, IsKept};
 
 use crate::laws;
+use layout_model::Draft;
+use pm_lines::Power;
 use posix_tables::outcomes::answer;
-use posix_types::{Call, Reply};
+use posix_types::{Call, Mode, Reply, Who};
 use world_parts::{
-    FilledJob, Full, Over, Parts, add, finish_write, give_up_write, settle_blocks, take_job,
+    Commit, FileTable, FilledJob, Finished, Full, JobOut, KSplit, Over, Parts, add, finish_write,
+    give_up_write, place_front, place_of, settle_blocks, take_job,
 };
 
 // How many bytes a write puts.
@@ -24,31 +33,93 @@ fn put_count(call: &Call) -> u64
     }
 }
 
-/// A job finishes while the power is on: its item stands at the end of the history.
-pub fn finish_on(p: &mut Parts, job: FilledJob, slot: u32)
+// The call of the job of a caller; no two are of one caller.
+fn call_of(pending: &[JobOut], who: Who) -> &Call
+    requires callers { AllPairs standing.AreOfTwoThreads pending.now }
+    requires out { (q : standing.JobOut) × In q pending.now × (q.who ≡ who) }
+    ensures { (q : standing.JobOut) → In q pending.now → q.who ≡ who → result.now ≡ q.call }
+{
+    match place_of(pending, who) {
+        Some(place) => {
+            let job = &pending[place];
+            &job.call
+        }
+        None => unreachable!(),
+    }
+}
+
+// Writes what a landed write has still to write in place, by the mode: in strict mode nothing.
+fn write_front(
+    k: &mut KSplit,
+    data: &FileTable,
+    mode: Mode,
+    draft: &Draft,
+    call: &Call,
+    power: &mut Power,
+) -> Commit
+    requires on { is_on power.old ≡ true }
+    requires can { mode ≢ Mode.Strict → CanPlace k.old data.now draft.now.ino
+        (front_start draft.now call.now) (front_bytes draft.now call.now) }
+    requires ends { front_end draft.now ≤ draft.now.size }
+    ensures steps { Steps (2 ^ 15) power.old power.new }
+    ensures paid { IsClearPaid power.new result }
+    ensures spared { mode ≡ Mode.Strict → power.new ≡ power.old }
+    ensures none { mode ≡ Mode.Strict → (result ≡ Commit.Done) × (k.new ≡ k.old) }
+    ensures answer { mode ≢ Mode.Strict
+        → IsFrontAnswer k.old k.new data.now draft.now call.now result }
+{
+    match mode {
+        Mode::Strict => Commit::Done,
+        Mode::Sync | Mode::Posix => place_front(k, data, draft, call, power),
+    }
+}
+
+/// A job finishes while the power is on: its item stands at the end of the history. In strict mode its call has
+/// acted at once; in sync mode its bytes before the first block of its entry are written in place first, and where
+/// the power goes on the way, its claim counts, and it stays out.
+///
+/// # Steps
+///
+/// At most 2^15; none in strict mode.
+pub fn finish_on(p: &mut Parts, job: FilledJob, slot: u32, power: &mut Power) -> Finished
+    requires on { is_on power.old ≡ true }
     requires kept { IsKept p.old }
     requires awake { p.old.lost ≡ false }
     requires out { p.old.lines_out ≡ true }
     requires job { IsOfWorld (seen p.old) job }
     ensures kept { IsKept p.new }
-    ensures finished { (q : standing.JobOut) → IsFilledOut (seen p.old) q job
-        → (power : Supply) → is_on power ≡ true → Finishes slot q (seen p.old) (seen p.new) power }
+    ensures steps { Steps (2 ^ 15) power.old power.new }
+    ensures spared { p.old.mode ≡ Mode.Strict → power.new ≡ power.old }
+    ensures finished { IsFinished job slot (seen p.old) (seen p.new) power.new result }
 {
     laws::finished_writes_end_with_their_files();
-    let Some(pending) = take_job(&mut p.pending, job.who()) else {
-        unreachable!()
-    };
+    let who = job.who();
+    let draft = *job.draft();
+    let call = call_of(&p.pending, who);
     finish_write(
         &mut p.k,
         &mut p.files,
         &mut p.data,
         &mut p.claims,
-        &pending.call,
+        call,
         job,
         slot,
     );
-    let outcome = answer(Reply::Count(put_count(&pending.call)));
-    add(p, pending.who, pending.call, outcome);
+    match write_front(&mut p.k, &p.data, p.mode, &draft, call, power) {
+        Commit::PowerLost => {
+            p.acts += 1;
+            p.lost = true;
+            Finished::PowerLost
+        }
+        Commit::Done => {
+            let Some(pending) = take_job(&mut p.pending, who) else {
+                unreachable!()
+            };
+            let outcome = answer(Reply::Count(put_count(&pending.call)));
+            add(p, pending.who, pending.call, outcome);
+            Finished::Done
+        }
+    }
 }
 
 /// A job finishes once the power went: its blocks come back, its claim counts, and it stays out.

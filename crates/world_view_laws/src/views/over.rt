@@ -6,7 +6,7 @@ use write_end::Full;
 pub enum Over {
     /// A claim found no line left.
     Lap(Full),
-    /// A logged call, or a `truncate` that lengthens, found too few blocks: how many it needs, and how many
-    /// there are. Both count blocks.
+    /// A write, or a `truncate` that lengthens, found too few blocks: how many it needs, and how many there are. Both
+    /// count blocks.
     Space { need: u64, room: u64 },
 }

@@ -36,7 +36,7 @@ returns c =
       spare = c.in_ok-spare.ensures.items;
       one = c.in_ok-spare.ensures.capacity;
     })
-    c.a_world_begins.ensures.going c.requires.mounted c.requires.strict c.requires.limits
+    c.a_world_begins.ensures.going c.requires.mounted c.requires.mode c.requires.limits
     (record {
       tree_is = c.in_ok-tree.ensures.content (c.a_world_begins.ensures.tree c.requires.mounted.0 c.requires.mounted.1 c.args.k c.requires.mounted.2).none;
       shape_is = subst (λ (g : Geometry). HasNumbersOf g c.shape-shape.result) c.geometry.ensures (record { data_blocks = shape.data_blocks; nodes = shape.nodes; names = shape.names; in_range = shape.in_range });

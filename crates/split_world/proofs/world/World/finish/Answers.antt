@@ -3,7 +3,10 @@ use Rattle.std.proofs.Common.{◌∙◌, ap, sym, subst, arith}
 use Rattle.round_laws.specs.pm_model.Powers.{Steps, Supply}
 use Rattle.world_begins.specs.world_parts.in_flight.live_model.Standing.{JobOut}
 use Rattle.world_begins.specs.world_parts.world_view_laws.Begins.{IsFilledOut}
-use Rattle.world_begins.specs.world_parts.world_view_laws.Jobs.{Finishes, IsOfWorld, LosesFinish}
+use Rattle.world_begins.specs.world_parts.in_flight.world_image_laws.Starts.{has_setting}
+use Rattle.world_begins.proofs.world_parts_proofs.world_view_laws_proofs.Ending.{no_both}
+use Rattle.world_begins.specs.world_parts.Answers.{IsFinished}
+use Rattle.world_begins.specs.world_parts.world_view_laws.Jobs.{IsOfWorld, LosesFinish}
 use Rattle.world_begins.specs.world_parts.world_view_laws.Views.{WorldView}
 use Rattle.world_begins.specs.world_parts.Seen.{seen}
 use Rattle.world_rounds.proofs.Lost.{loses_first, out_lost}
@@ -19,7 +22,15 @@ pub returns-then-not-on-clause-steps : goal.returns-then-not-on-clause-steps
 returns-then-not-on-clause-steps c = none (2 ^ 26) c.args.power.now
 
 pub returns-clause-steps : goal.returns-clause-steps
-returns-clause-steps c = none (2 ^ 26) c.args.power.now
+returns-clause-steps c = let few = c.finish_on.ensures.steps in record { given = few.given; on_before = few.on_before; later = few.later; bound = omega (arith, few.bound) }
+
+pub returns-clause-spared : goal.returns-clause-spared
+returns-clause-spared c strict =
+    let parts = c.self.inside.parts in
+    c.finish_on.ensures.spared (sym (has_setting parts.tree parts.shape parts.mode).1 ∙ ap (λ (w : WorldView). w.start.mode) c.self.view_is ∙ strict)
+
+pub returns-clause-off : goal.returns-clause-off
+returns-clause-off c lost = no_both c.self.inside.parts.lost (ap (λ (w : WorldView). w.lost) c.self.view_is ∙ lost) c.if-self.false _
 
 pub returns-then-self-clause-finished : goal.returns-then-self-clause-finished
 returns-then-self-clause-finished c =
@@ -41,5 +52,7 @@ returns-then-not-on-clause-finished c =
 
 pub returns-clause-finished : goal.returns-clause-finished
 returns-clause-finished c =
-    subst (λ (w : WorldView). (q : JobOut) → IsFilledOut w q c.args.job → Finishes c.args.slot q w (seen c.finish_on.new.p) c.args.power.now) c.self.view_is
-    (λ q is. c.finish_on.ensures.finished q is c.args.power.now (sym c.on.ensures ∙ c.if-not-on.false))
+    subst (λ (w : WorldView). IsFinished c.args.job c.args.slot w (seen c.finish_on.new.p) c.finish_on.new.power c.finish_on.result) c.self.view_is c.finish_on.ensures.finished
+
+pub finish_on-requires-clause-on : goal.finish_on-requires-clause-on
+finish_on-requires-clause-on c = sym c.on.ensures ∙ c.if-not-on.false

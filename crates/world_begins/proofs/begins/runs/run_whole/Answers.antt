@@ -37,7 +37,7 @@ run_now-requires-clause-published c =
 pub returns-in-Ok-Some-clause-begun : goal.returns-in-Ok-Some-clause-begun
 returns-in-Ok-Some-clause-begun c =
     let first = subst (λ (o : Option Call). IsPublishedFirst c.args.who c.args.call c.args.p.now c.publish_first.new.p c.publish_first.new.power (Ok o)) c.in-Ok-Some.field-0-is c.in-Ok-Some.ensures.first in
-    begun_first (seen c.args.p.now) (seen c.publish_first.new.p) (seen c.run_now.new.p) c.args.who c.args.call c.requires.turn.calls.world.mode c.requires.turn.calls.begins first.1.view_is first.1.tables first.1.staging first.1.stay
+    begun_first (seen c.args.p.now) (seen c.publish_first.new.p) (seen c.run_now.new.p) c.args.who c.args.call c.requires.plain c.requires.turn.calls.begins first.1.view_is first.1.tables first.1.staging first.1.stay
     c.args.power.now c.publish_first.new.power c.run_now.new.power (later_step _ c.args.power.now c.publish_first.new.power c.run_now.new.power c.publish_first.ensures.steps) c.run_now.result c.run_now.ensures.begun
 
 pub returns-in-Err-clause-kept : goal.returns-in-Err-clause-kept

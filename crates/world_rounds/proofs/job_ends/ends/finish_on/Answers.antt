@@ -1,51 +1,96 @@
-use Rattle.std.proofs.Common.{◌≡◌, ◌∙◌, ap, ℕ, sym}
+use Rattle.std.proofs.Common.{◌≡◌, ◌≢◌, ◌∙◌, AllPairs, ap, arith, List, ℕ, subst, sym}
+use Rattle.posix_types.specs.declared.call.Mode.{Mode}
 use Rattle.posix_types.specs.declared.call.Who.{Who}
 use Rattle.posix_types.specs.declared.reply.Reply.{Reply}
 use Rattle.posix_tables.specs.Outcomes.{answer}
-use Rattle.world_parts.specs.in_flight.live_model.Standing.{JobOut}
+use Rattle.world_parts.specs.list_laws.Members.{In}
+use Rattle.world_parts.specs.in_flight.live_model.Standing.{AreOfTwoThreads, JobOut}
 use Rattle.world_parts.specs.in_flight.live_model.Jobs.{without}
+use Rattle.world_parts.specs.k_journal.declared.outcomes.Commit.{Commit}
+use Rattle.world_parts.proofs.Adding.{few_acts}
 use Rattle.world_rounds.proofs.Finishes.{callers, finished_kept, finished_so, may_add, may_finish, room_for_claim, taken_is}
+use Rattle.world_rounds.proofs.Fronts.{cut_kept, cut_so, ends_within, front_left, front_same, may_write}
 use Rattle.world_rounds.proofs.job_ends.ends.finish_on.Goals as goal
+
+pub call_of-call-requires-clause-callers : goal.call_of-call-requires-clause-callers
+call_of-call-requires-clause-callers c = subst (λ (ps : List JobOut). AllPairs AreOfTwoThreads ps) (sym c.deref.ensures.value) (callers c.args.p.now c.requires.kept c.requires.awake c.requires.out c.args.job c.requires.job.0 c.requires.job.1)
+
+pub call_of-call-requires-clause-out : goal.call_of-call-requires-clause-out
+call_of-call-requires-clause-out c =
+    (c.requires.job.0, subst (λ (ps : List JobOut). In c.requires.job.0 ps) (sym c.deref.ensures.value) c.requires.job.1.there, sym (c.who-who.ensures ∙ c.requires.job.1.who))
+
+pub finish_write-requires-clause-job : goal.finish_write-requires-clause-job
+finish_write-requires-clause-job c = may_finish c.args.p.now c.requires.kept c.requires.awake c.requires.out c.args.job c.requires.job.0 c.requires.job.1 c.call_of-call.result.now (c.call_of-call.ensures c.requires.job.0 (subst (λ (ps : List JobOut). In c.requires.job.0 ps) (sym c.deref.ensures.value) c.requires.job.1.there) (sym (c.who-who.ensures ∙ c.requires.job.1.who)))
+
+pub finish_write-requires-clause-room : goal.finish_write-requires-clause-room
+finish_write-requires-clause-room c = room_for_claim c.args.p.now c.requires.kept c.requires.awake c.requires.out c.args.job c.requires.job.0 c.requires.job.1
+
+pub write_front-requires-clause-can : goal.write_front-requires-clause-can
+write_front-requires-clause-can c = may_write c.args.p.now c.requires.kept c.requires.awake c.requires.out c.args.job c.requires.job.0 c.requires.job.1 c.args.slot c.call_of-call.result.now (c.call_of-call.ensures c.requires.job.0 (subst (λ (ps : List JobOut). In c.requires.job.0 ps) (sym c.deref.ensures.value) c.requires.job.1.there) (sym (c.who-who.ensures ∙ c.requires.job.1.who))) c.draft.result.now c.draft.ensures.draft c.finish_write.new.k c.finish_write.new.tables c.finish_write.new.files c.finish_write.ensures.same c.finish_write.ensures.lands
+
+pub write_front-requires-clause-ends : goal.write_front-requires-clause-ends
+write_front-requires-clause-ends c = ends_within c.args.p.now c.requires.kept c.requires.awake c.requires.out c.args.job c.requires.job.0 c.requires.job.1 c.draft.result.now c.draft.ensures.draft
+
+-- ---- the power went
+
+pub overflow_add-p : goal.overflow_add-p
+overflow_add-p c = omega (arith, few_acts c.args.p.now c.requires.kept)
+
+pub returns-in-PowerLost-clause-kept : goal.returns-in-PowerLost-clause-kept
+returns-in-PowerLost-clause-kept c =
+    let weak : c.args.p.now.mode ≢ Mode.Strict = (λ strict. (let never : Commit.PowerLost ≡ Commit.Done = (c.in-PowerLost.ensures.none strict).0 in cc)) in
+    cut_kept c.args.p.now c.requires.kept c.requires.awake c.requires.out c.args.job c.requires.job.0 c.requires.job.1 c.args.slot c.call_of-call.result.now (c.call_of-call.ensures c.requires.job.0 (subst (λ (ps : List JobOut). In c.requires.job.0 ps) (sym c.deref.ensures.value) c.requires.job.1.there) (sym (c.who-who.ensures ∙ c.requires.job.1.who))) c.draft.result.now c.draft.ensures.draft c.finish_write.new.k c.finish_write.new.tables c.finish_write.new.files c.finish_write.ensures.same c.finish_write.ensures.lands c.write_front.new.k
+    weak (c.in-PowerLost.ensures.answer weak) c.finish_write.new.claims c.finish_write.ensures.claims c.finish_write.ensures.capacity
+
+pub returns-in-PowerLost-clause-finished : goal.returns-in-PowerLost-clause-finished
+returns-in-PowerLost-clause-finished c q is =
+    let weak : c.args.p.now.mode ≢ Mode.Strict = (λ strict. (let never : Commit.PowerLost ≡ Commit.Done = (c.in-PowerLost.ensures.none strict).0 in cc)) in
+    cut_so c.args.p.now c.requires.kept c.requires.awake c.requires.out c.args.job q is c.args.slot c.call_of-call.result.now (c.call_of-call.ensures q (subst (λ (ps : List JobOut). In q ps) (sym c.deref.ensures.value) is.there) (sym (c.who-who.ensures ∙ is.who))) c.draft.result.now c.draft.ensures.draft c.finish_write.new.k c.finish_write.new.tables c.finish_write.new.files c.finish_write.ensures.same c.finish_write.ensures.lands c.write_front.new.k
+    weak (c.in-PowerLost.ensures.answer weak) c.finish_write.new.claims c.finish_write.ensures.claims c.finish_write.ensures.capacity c.write_front.new.power c.in-PowerLost.ensures.paid
+
+-- ---- it is done
 
 pub take_job-requires : goal.take_job-requires
 take_job-requires c = callers c.args.p.now c.requires.kept c.requires.awake c.requires.out c.args.job c.requires.job.0 c.requires.job.1
 
 pub unreachable-requires : goal.unreachable-requires
-unreachable-requires c = c.in_default.ensures.none c.requires.job.0 c.requires.job.1.there (sym (c.who.ensures ∙ c.requires.job.1.who))
-
-pub finish_write-requires-clause-job : goal.finish_write-requires-clause-job
-finish_write-requires-clause-job c =
-    let taken = c.in-Some.ensures.some in
-    let view : JobOut = record { who = c.pending.inside.who; call = c.pending.inside.call; draft = c.pending.inside.draft; blocks = c.pending.inside.blocks.items } in
-    may_finish c.args.p.now c.requires.kept c.requires.awake c.requires.out c.args.job c.requires.job.0 c.requires.job.1 view
-    (c.pending.view_is ∙ taken_is c.args.p.now c.requires.kept c.requires.awake c.requires.out c.args.job c.requires.job.0 c.requires.job.1 c.in-Some.pending taken.0 (taken.1 ∙ c.who.ensures))
+unreachable-requires c = c.in_default.ensures.none c.requires.job.0 c.requires.job.1.there (sym (c.who-who.ensures ∙ c.requires.job.1.who))
 
 pub add-requires : goal.add-requires
 add-requires c =
     let taken = c.in-Some.ensures.some in
     let view : JobOut = record { who = c.pending.inside.who; call = c.pending.inside.call; draft = c.pending.inside.draft; blocks = c.pending.inside.blocks.items } in
-    let same : view ≡ c.requires.job.0 = c.pending.view_is ∙ taken_is c.args.p.now c.requires.kept c.requires.awake c.requires.out c.args.job c.requires.job.0 c.requires.job.1 c.in-Some.pending taken.0 (taken.1 ∙ c.who.ensures) in
-    let left = c.in-Some.ensures.left ∙ ap (λ (w : Who). without w c.args.p.now.pending.items) c.who.ensures in
+    let same : view ≡ c.requires.job.0 = c.pending.view_is ∙ taken_is c.args.p.now c.requires.kept c.requires.awake c.requires.out c.args.job c.requires.job.0 c.requires.job.1 c.in-Some.pending taken.0 (taken.1 ∙ c.who-who.ensures) in
+    let left = c.in-Some.ensures.left ∙ ap (λ (w : Who). without w c.args.p.now.pending.items) c.who-who.ensures in
     let replied = c.answer-outcome.ensures ∙ ap (λ (n : ℕ). answer (Reply.Count n)) c.put_count.ensures in
-    may_add c.args.p.now c.requires.kept c.requires.awake c.requires.out c.args.job c.requires.job.0 c.requires.job.1 c.finished_writes_end_with_their_files.ensures.finished c.args.slot view same c.answer-outcome.result replied c.finish_write.new.k c.finish_write.new.tables c.finish_write.new.files c.finish_write.new.claims c.take_job.new.pending left c.finish_write.ensures.same c.finish_write.ensures.claims c.finish_write.ensures.capacity c.finish_write.ensures.leaves
+    let none = λ (strict : c.args.p.now.mode ≡ Mode.Strict). (c.in-Done.ensures.none strict).1 in
+    may_add c.args.p.now c.requires.kept c.requires.awake c.requires.out c.args.job c.requires.job.0 c.requires.job.1 c.finished_writes_end_with_their_files.ensures.finished c.args.slot view same c.answer-outcome.result replied c.write_front.new.k c.finish_write.new.tables c.finish_write.new.files c.finish_write.new.claims c.take_job.new.pending left
+    (front_same c.args.p.now c.requires.kept c.requires.awake c.requires.out c.args.job c.requires.job.0 c.requires.job.1 c.args.slot c.call_of-call.result.now (c.call_of-call.ensures c.requires.job.0 (subst (λ (ps : List JobOut). In c.requires.job.0 ps) (sym c.deref.ensures.value) c.requires.job.1.there) (sym (c.who-who.ensures ∙ c.requires.job.1.who))) c.draft.result.now c.draft.ensures.draft c.finish_write.new.k c.finish_write.new.tables c.finish_write.new.files c.finish_write.ensures.same c.finish_write.ensures.lands c.write_front.new.k none c.in-Done.ensures.answer)
+    c.finish_write.ensures.claims c.finish_write.ensures.capacity
+    (front_left c.args.p.now c.requires.kept c.requires.awake c.requires.out c.args.job c.requires.job.0 c.requires.job.1 c.args.slot c.call_of-call.result.now (c.call_of-call.ensures c.requires.job.0 (subst (λ (ps : List JobOut). In c.requires.job.0 ps) (sym c.deref.ensures.value) c.requires.job.1.there) (sym (c.who-who.ensures ∙ c.requires.job.1.who))) c.draft.result.now c.draft.ensures.draft c.finish_write.new.k c.finish_write.new.tables c.finish_write.new.files c.finish_write.ensures.same c.finish_write.ensures.lands c.write_front.new.k none c.in-Done.ensures.answer)
 
-pub returns-clause-kept : goal.returns-clause-kept
-returns-clause-kept c =
+pub returns-in-Some-clause-kept : goal.returns-in-Some-clause-kept
+returns-in-Some-clause-kept c =
     let taken = c.in-Some.ensures.some in
     let view : JobOut = record { who = c.pending.inside.who; call = c.pending.inside.call; draft = c.pending.inside.draft; blocks = c.pending.inside.blocks.items } in
-    let same : view ≡ c.requires.job.0 = c.pending.view_is ∙ taken_is c.args.p.now c.requires.kept c.requires.awake c.requires.out c.args.job c.requires.job.0 c.requires.job.1 c.in-Some.pending taken.0 (taken.1 ∙ c.who.ensures) in
-    let left = c.in-Some.ensures.left ∙ ap (λ (w : Who). without w c.args.p.now.pending.items) c.who.ensures in
+    let same : view ≡ c.requires.job.0 = c.pending.view_is ∙ taken_is c.args.p.now c.requires.kept c.requires.awake c.requires.out c.args.job c.requires.job.0 c.requires.job.1 c.in-Some.pending taken.0 (taken.1 ∙ c.who-who.ensures) in
+    let left = c.in-Some.ensures.left ∙ ap (λ (w : Who). without w c.args.p.now.pending.items) c.who-who.ensures in
     let replied = c.answer-outcome.ensures ∙ ap (λ (n : ℕ). answer (Reply.Count n)) c.put_count.ensures in
-    finished_kept c.args.p.now c.requires.kept c.requires.awake c.requires.out c.args.job c.requires.job.0 c.requires.job.1 c.finished_writes_end_with_their_files.ensures.finished c.args.slot view same c.answer-outcome.result replied c.finish_write.new.k c.finish_write.new.tables c.finish_write.new.files c.finish_write.new.claims c.take_job.new.pending left c.finish_write.ensures.same c.finish_write.ensures.claims c.finish_write.ensures.capacity c.finish_write.ensures.leaves c.add.new.p c.add.ensures
+    let none = λ (strict : c.args.p.now.mode ≡ Mode.Strict). (c.in-Done.ensures.none strict).1 in
+    finished_kept c.args.p.now c.requires.kept c.requires.awake c.requires.out c.args.job c.requires.job.0 c.requires.job.1 c.finished_writes_end_with_their_files.ensures.finished c.args.slot view same c.answer-outcome.result replied c.write_front.new.k c.finish_write.new.tables c.finish_write.new.files c.finish_write.new.claims c.take_job.new.pending left
+    (front_same c.args.p.now c.requires.kept c.requires.awake c.requires.out c.args.job c.requires.job.0 c.requires.job.1 c.args.slot c.call_of-call.result.now (c.call_of-call.ensures c.requires.job.0 (subst (λ (ps : List JobOut). In c.requires.job.0 ps) (sym c.deref.ensures.value) c.requires.job.1.there) (sym (c.who-who.ensures ∙ c.requires.job.1.who))) c.draft.result.now c.draft.ensures.draft c.finish_write.new.k c.finish_write.new.tables c.finish_write.new.files c.finish_write.ensures.same c.finish_write.ensures.lands c.write_front.new.k none c.in-Done.ensures.answer)
+    c.finish_write.ensures.claims c.finish_write.ensures.capacity
+    (front_left c.args.p.now c.requires.kept c.requires.awake c.requires.out c.args.job c.requires.job.0 c.requires.job.1 c.args.slot c.call_of-call.result.now (c.call_of-call.ensures c.requires.job.0 (subst (λ (ps : List JobOut). In c.requires.job.0 ps) (sym c.deref.ensures.value) c.requires.job.1.there) (sym (c.who-who.ensures ∙ c.requires.job.1.who))) c.draft.result.now c.draft.ensures.draft c.finish_write.new.k c.finish_write.new.tables c.finish_write.new.files c.finish_write.ensures.same c.finish_write.ensures.lands c.write_front.new.k none c.in-Done.ensures.answer) c.add.new.p c.add.ensures
 
-pub returns-clause-finished : goal.returns-clause-finished
-returns-clause-finished c q is power on =
+pub returns-in-Some-clause-finished : goal.returns-in-Some-clause-finished
+returns-in-Some-clause-finished c q is =
     let taken = c.in-Some.ensures.some in
     let view : JobOut = record { who = c.pending.inside.who; call = c.pending.inside.call; draft = c.pending.inside.draft; blocks = c.pending.inside.blocks.items } in
-    let same : view ≡ q = c.pending.view_is ∙ taken_is c.args.p.now c.requires.kept c.requires.awake c.requires.out c.args.job q is c.in-Some.pending taken.0 (taken.1 ∙ c.who.ensures) in
-    let left = c.in-Some.ensures.left ∙ ap (λ (w : Who). without w c.args.p.now.pending.items) c.who.ensures in
+    let same : view ≡ q = c.pending.view_is ∙ taken_is c.args.p.now c.requires.kept c.requires.awake c.requires.out c.args.job q is c.in-Some.pending taken.0 (taken.1 ∙ c.who-who.ensures) in
+    let left = c.in-Some.ensures.left ∙ ap (λ (w : Who). without w c.args.p.now.pending.items) c.who-who.ensures in
     let replied = c.answer-outcome.ensures ∙ ap (λ (n : ℕ). answer (Reply.Count n)) c.put_count.ensures in
-    finished_so c.args.p.now c.requires.kept c.requires.awake c.requires.out c.args.job q is c.finished_writes_end_with_their_files.ensures.finished c.args.slot view same c.answer-outcome.result replied c.finish_write.new.k c.finish_write.new.tables c.finish_write.new.files c.finish_write.new.claims c.take_job.new.pending left c.finish_write.ensures.same c.finish_write.ensures.claims c.finish_write.ensures.capacity c.finish_write.ensures.leaves c.add.new.p c.add.ensures c.finish_write.ensures.lays power on
-
-pub finish_write-requires-clause-room : goal.finish_write-requires-clause-room
-finish_write-requires-clause-room c = room_for_claim c.args.p.now c.requires.kept c.requires.awake c.requires.out c.args.job c.requires.job.0 c.requires.job.1
+    let none = λ (strict : c.args.p.now.mode ≡ Mode.Strict). (c.in-Done.ensures.none strict).1 in
+    finished_so c.args.p.now c.requires.kept c.requires.awake c.requires.out c.args.job q is c.finished_writes_end_with_their_files.ensures.finished c.args.slot view same c.answer-outcome.result replied c.write_front.new.k c.finish_write.new.tables c.finish_write.new.files c.finish_write.new.claims c.take_job.new.pending left
+    (front_same c.args.p.now c.requires.kept c.requires.awake c.requires.out c.args.job q is c.args.slot c.call_of-call.result.now (c.call_of-call.ensures q (subst (λ (ps : List JobOut). In q ps) (sym c.deref.ensures.value) is.there) (sym (c.who-who.ensures ∙ is.who))) c.draft.result.now c.draft.ensures.draft c.finish_write.new.k c.finish_write.new.tables c.finish_write.new.files c.finish_write.ensures.same c.finish_write.ensures.lands c.write_front.new.k none c.in-Done.ensures.answer)
+    c.finish_write.ensures.claims c.finish_write.ensures.capacity
+    (front_left c.args.p.now c.requires.kept c.requires.awake c.requires.out c.args.job q is c.args.slot c.call_of-call.result.now (c.call_of-call.ensures q (subst (λ (ps : List JobOut). In q ps) (sym c.deref.ensures.value) is.there) (sym (c.who-who.ensures ∙ is.who))) c.draft.result.now c.draft.ensures.draft c.finish_write.new.k c.finish_write.new.tables c.finish_write.new.files c.finish_write.ensures.same c.finish_write.ensures.lands c.write_front.new.k none c.in-Done.ensures.answer) c.add.new.p c.add.ensures c.finish_write.ensures.lays c.write_front.new.power c.in-Done.ensures.paid

@@ -1,6 +1,5 @@
-use Rattle.std.proofs.Common.{◌≡◌, ◌∙◌, [], inr, Ok, Result, subst, sym}
+use Rattle.std.proofs.Common.{[], inr, Ok, Result, subst}
 use Rattle.std.specs.declared.alloc.AllocError.{AllocError}
-use Rattle.posix_types.specs.declared.call.Mode.{Mode}
 use Rattle.world_parts.specs.k_journal.declared.outcomes.Commit.{Commit}
 use Rattle.world_parts.specs.log_checkpoint.fsync_relink.Publishes.{IsPublishPaid}
 use Rattle.world_parts.specs.log_checkpoint.Gathers.{IsGatherAnswer}
@@ -63,7 +62,7 @@ returns-in-Done-clause-ended c =
           (c.an_unmount_ends_a_run.ensures.empty c.args.p.k c.put_log.new.self c.gather.new.k c.args.p.files.tables c.args.p.staging c.gather.new.staging c.args.p.data c.gather.new.files (seen c.args.p) c.args.lines.items
           (ending_of c.the_lines_of_a_round_come_home.ensures.ready c.args.p c.put_log.new.self c.args.lines.items c.requires.kept c.requires.awake c.requires.may.none_out c.requires.may.lines_are c.put_log.ensures.same c.is_lost-lost.ensures.order c.put_log.ensures.back c.put_log.ensures.home)
           (subst (λ (commit : Commit). IsGatherAnswer c.args.p.data c.put_log.new.self c.gather.new.staging c.gather.new.files c.gather.new.k (Ok commit)) c.in-Done.is c.in_ok-commit.ensures.answer)),
-      tree_by (seen c.args.p) c.into_pm-pm.result (λ posix. (let never : Mode.Strict ≡ Mode.Posix = sym c.requires.kept.world.mode ∙ posix in cc)) left,
+      tree_by (seen c.args.p) c.into_pm-pm.result c.requires.kept.world.mode left,
     )
 
 pub returns-in-PowerLost-clause-ended : goal.returns-in-PowerLost-clause-ended

@@ -111,10 +111,29 @@ def next_places(found: Found, count: int) -> list[int]:
     return [count] if places.get("s") == count else sorted(places.values())
 
 
-def unfinished_of(found: Found, model: Model, count: int, tree: tuple[str, ...]) -> list[int] | None:
-    """Returns the fewest unfinished calls behind so many, by their places in the whole history, that make this tree; None where
-    none do."""
+def is_part(old: tuple[str, ...], new: tuple[str, ...], tree: tuple[str, ...]) -> bool:
+    """Says whether a tree has the paths and lengths of the new one, and each byte of its files is the old one or the new one."""
+    before, made, found = nodes_of(old), nodes_of(new), nodes_of(tree)
+    if found.keys() != made.keys():
+        return False
+    for path, has in found.items():
+        will, had = made[path], before.get(path)
+        if has == will:
+            continue
+        if not has or not will or not had or has[0] != will[0]:
+            return False
+        olds = bytes_of(had[1])
+        pairs = enumerate(zip(bytes_of(has[1]), bytes_of(will[1])))
+        if any(byte != now and byte != (olds[at] if at < len(olds) else now) for at, (byte, now) in pairs):
+            return False
+    return True
+
+
+def unfinished_of(found: Found, model: Model, count: int, tree: tuple[str, ...]) -> tuple[list[int], str] | None:
+    """Returns the fewest unfinished calls behind so many, by their places in the whole history, that make this tree, or else a part
+    of them does, as in sync mode, with the word that tells them; None where none do."""
     places = [it for it in next_places(found, count) if succeeded(found.whole.calls[it])]
+    old, parts = tuple(model.tree()), None
     for many in range(1, len(places) + 1):
         for some in itertools.combinations(places, many):
             made = copy.deepcopy(model)
@@ -123,9 +142,12 @@ def unfinished_of(found: Found, model: Model, count: int, tree: tuple[str, ...])
                     made.apply(call_of(found.whole.calls[place]))
             except Differs:
                 continue
-            if tuple(made.tree()) == tree:
-                return list(some)
-    return None
+            new = tuple(made.tree())
+            if new == tree:
+                return list(some), "unfinished"
+            if parts is None and is_part(old, new, tree):
+                parts = list(some), "unfinished, in part"
+    return parts
 
 
 def loud(calls: list[str]) -> list[str]:
@@ -155,7 +177,8 @@ def what_happened(found: Found) -> list[str]:
         if unfinished is None:
             names.append(f"{last}, but {changed}")
         else:
-            names.append(f"{cut('; '.join(calls[place + 1] for place in unfinished), 60)} unfinished: {changed}")
+            some, word = unfinished
+            names.append(f"{cut('; '.join(calls[place + 1] for place in some), 60)} {word}: {changed}")
     return names
 
 

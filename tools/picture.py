@@ -135,8 +135,8 @@ def draw_legend(top: float, fills: list[str], names: list[str], verdicts: list[V
     return out
 
 
-def picture(found: Found, title: str, verdicts: list[Verdict] | None) -> str:
-    """Returns the SVG."""
+def drawing(found: Found, title: str, verdicts: list[Verdict] | None) -> tuple[list[str], float]:
+    """Returns the parts of the picture of a script in a mode, and how high it is."""
     step = WIDTH / len(found.stops)
     fills, names = colours(found, verdicts), what_happened(found)
     lanes = max([lane for _, lane, _, _ in placed_labels(found, step)], default=0) + 1
@@ -149,6 +149,19 @@ def picture(found: Found, title: str, verdicts: list[Verdict] | None) -> str:
         *draw_axis(found, step, bottom),
         *draw_legend(bottom + 54, fills, names, verdicts),
     ]
-    height, width = bottom + 74 + len(names) * 16, LEFT + WIDTH + 180
-    head = f'<svg xmlns="http://www.w3.org/2000/svg" width="{width}" height="{height}" viewBox="0 0 {width} {height}" font-family="sans-serif">'
+    return parts, bottom + 74 + len(names) * 16
+
+
+def stacked(drawings: list[tuple[list[str], float]]) -> str:
+    """Returns the SVG of drawings, one above the other."""
+    width, height, parts = LEFT + WIDTH + 180, 0.0, []
+    for drawn, high in drawings:
+        parts += drawn if not height else [f'<g transform="translate(0 {height})">', *drawn, "</g>"]
+        height += high
+    head = f'<svg xmlns="http://www.w3.org/2000/svg" width="{width}" height="{height:g}" viewBox="0 0 {width} {height:g}" font-family="sans-serif">'
     return "\n".join([head, '<rect width="100%" height="100%" fill="white"/>', *parts, "</svg>", ""])
+
+
+def picture(found: Found, title: str, verdicts: list[Verdict] | None) -> str:
+    """Returns the SVG."""
+    return stacked([drawing(found, title, verdicts)])

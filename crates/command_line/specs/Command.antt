@@ -3,8 +3,8 @@
 --   tree IMAGE
 --   step IMAGE SCRIPT MODE [order LIST | seed N] [cut E] [stop N] [again NUMBERS] [choose C] [keep NAME]
 --   load N T MODE
--- IMAGE is the name of a file, or `-` for the fresh default image, which `mkfs` does not make. MODE is `strict`, the one
--- that is built. LIST is 1 to 65,536 numbers below 8 with commas between; a number has 1 to 18 digits. C is `oldest`, `newest`, `even`,
+-- IMAGE is the name of a file, or `-` for the fresh default image, which `mkfs` does not make. MODE is `strict` or `sync`, those
+-- that are built. LIST is 1 to 65,536 numbers below 8 with commas between; a number has 1 to 18 digits. C is `oldest`, `newest`, `even`,
 -- `odd` or a number. A load has at most 500 calls for each of 1 to 8 threads.
 use Rattle.std.specs.Prelude.{ℕ, List, [], length, codes, ◌&&◌, ◌==◌, nat_le, slice_index_or, drop, if◌then◌else◌, Option, Some, None, option_and_then, option_map}
 use Rattle.image_layout.specs.layout_model.Fields.{is_same}
@@ -59,7 +59,10 @@ image_of word = if is_same word (codes "-") then Fresh else Stored word
 
 -- a mode by its name, of those that are built
 abbrev pub mode_of : List ℕ → Option Mode
-mode_of word = if is_same word (codes "strict") then Some Mode.Strict else None
+mode_of word =
+    if is_same word (codes "strict") then Some Mode.Strict
+    else if is_same word (codes "sync") then Some Mode.Sync
+    else None
 
 -- a choice by its name, or a number for the seed of its draws
 abbrev pub choice_of : List ℕ → Option Choice

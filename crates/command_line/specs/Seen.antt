@@ -1,5 +1,5 @@
 -- What clauses see of the values of the program.
-use Rattle.std.specs.Prelude.{◌≡◌, ◌≤◌, ⊤, option_and_then, option_map}
+use Rattle.std.specs.Prelude.{◌≢◌, ◌≤◌, ⊤, option_and_then, option_map}
 use Rattle.std.specs.String.{string_bytes}
 use Rattle.command_line.specs.declared.commands.commands.Command.{Command}
 use Rattle.command_line.specs.declared.commands.commands.Image.{Image}
@@ -42,11 +42,11 @@ seen (Command.Load calls threads mode) = meaning.Load (record { calls = calls; t
 pub record IsBuiltLoad (loading : meaning.Loading) : Type 0 where
   pub few : loading.calls ≤ 500
   pub threads : loading.threads ≤ 8
-  pub strict : loading.mode ≡ Mode.Strict
+  pub mode_is : loading.mode ≢ Mode.Posix
 
 -- a run is in a mode that is built, and a load is within its limits
 abbrev pub IsBuilt : Command → Type 0
 IsBuilt (Command.Mkfs name geometry) = ⊤
 IsBuilt (Command.Tree image) = ⊤
-IsBuilt (Command.Step image script options) = options.mode ≡ Mode.Strict
+IsBuilt (Command.Step image script options) = options.mode ≢ Mode.Posix
 IsBuilt (Command.Load calls threads mode) = IsBuiltLoad (record { calls = calls; threads = threads; mode = mode })

@@ -2,7 +2,7 @@
 use Rattle.std.proofs.Common.{◌≡◌, ◌<◌, ◌≤◌, ◌^◌, ℕ, List, length, refl, sym, ◌∙◌, ap, subst, arith}
 use Rattle.std.proofs.lemmas.Bool.{and_parts}
 use Rattle.std.proofs.lemmas.Bool.Decides.{nat_tests}
-use Rattle.std.specs.Prelude.{true}
+use Rattle.std.specs.Prelude.{◌≢◌, true}
 use Rattle.command_line.specs.pm_model.declared.Cell.{Cell}
 use Rattle.command_line.specs.pm_model.Images.{words_of}
 use Rattle.command_line.specs.pm_model.Words.{line_bytes}
@@ -25,7 +25,7 @@ has_lines g within = grind (arith, nat_tests)
 has_few_lines : (g : Geometry) → is_in_range g ≡ true → g.log < 2 ^ 32
 has_few_lines g within = grind (arith, nat_tests)
 
-module _ (g : Geometry) (d : List Cell) (mounts : CanMount g d) (scripts : Scripts) (w : WorldView) (mode : Mode) (strict : mode ≡ Mode.Strict) (limits : AreInLimits scripts) (begins : BeginsMounted (geometry_of (words_of d)) (words_of d) mode scripts w) where
+module _ (g : Geometry) (d : List Cell) (mounts : CanMount g d) (scripts : Scripts) (w : WorldView) (mode : Mode) (other : mode ≢ Mode.Posix) (limits : AreInLimits scripts) (begins : BeginsMounted (geometry_of (words_of d)) (words_of d) mode scripts w) where
   scripts_are : w.scripts ≡ scripts
   scripts_are = ap (λ (v : WorldView). v.scripts) begins.world_is
 
@@ -62,6 +62,6 @@ module _ (g : Geometry) (d : List Cell) (mounts : CanMount g d) (scripts : Scrip
       lines = refl;
       start = ap (λ (v : WorldView). v.start) begins.world_is;
       scripts_are = scripts_are;
-      strict = strict;
+      mode = other;
     };
   }

@@ -5,7 +5,7 @@ use Rattle.std.proofs.lemmas.Bool.{true≢false, ltb-false}
 use Rattle.command_line.specs.pm_model.declared.Cell.{Cell}
 use Rattle.command_line.specs.pm_model.Powers.{is_left, is_on, Supply}
 use Rattle.split_machine.specs.crash_spec.Permitted.{Permitted}
-use Rattle.split_machine.specs.crash_spec.Strict.{Strict}
+use Rattle.split_machine.specs.crash_spec.RelationLaws.{Strict-idle, Sync-idle}
 use Rattle.command_line.specs.layout_model.Places.{Geometry}
 use Rattle.posix_types.specs.declared.call.Mode.{Mode}
 use Rattle.posix_types.specs.declared.item.Item.{Item}
@@ -13,9 +13,10 @@ use Rattle.posix_types.specs.declared.tree.TreeEntry.{TreeEntry}
 use Rattle.posix_types.specs.Scripts.{Scripts}
 use Rattle.command_line.specs.posix_spec.Afforded.{Afforded}
 use Rattle.command_line.specs.Command.{Options}
-use Rattle.command_line.specs.posix_spec.Run.{Unfinished, IsLegal}
+use Rattle.command_line.specs.posix_spec.Run.{IsLegal, run, Unfinished}
 use Rattle.command_line.specs.posix_spec.Scripted.{IsComplete, Scripted}
 use Rattle.command_line.specs.posix_spec.State.{State}
+use Rattle.command_line.specs.posix_spec.Tree.{tree}
 use Rattle.command_line.specs.posix_spec.Unfinished.{AreUnfinished}
 use Rattle.split_machine.specs.run_laws.Changes.{ChangesAtMost}
 use Rattle.split_machine.specs.course_laws.Course.{setting_of}
@@ -55,6 +56,12 @@ just_cut events cut is = subst (λ (c : Option ℕ). AreWithin events c) (sym is
 has_stop : (stop : Option ℕ) (before after : Supply) → before ≡ record { given = stop; taken = 0 } → after.given ≡ before.given → is_on after ≡ false → IsSome stop
 has_stop None before after start same off = absurd (never_off before after start same off)
 has_stop (Some steps) before after start same off = refl
+
+-- Outside POSIX mode a run with nothing unfinished leaves just the tree of its history.
+one_tree : (mode : Mode) → mode ≢ Mode.Posix → (s : State) (history : List Item) (shown : List TreeEntry) → Permitted mode s history [] shown → shown ≡ tree (run s history)
+one_tree Mode.Strict other s history shown permitted = Strict-idle s history shown permitted
+one_tree Mode.Sync other s history shown permitted = Sync-idle s history shown permitted
+one_tree Mode.Posix other s history shown permitted = absurd (other refl)
 
 module _ (g : Geometry) (task : Task) (options : Options) (w : WorldView) (before after : Supply) (pm : List Cell) (history : List Item) (unfinished : List Unfinished) (left : List TreeEntry) (on : IsWorldOn g task w) (power : before ≡ record { given = options.stop; taken = 0 }) (all : LeadsReaches) (ran : machine.IsRan w before after pm history unfinished) (permits : Permitted w.start.mode w.start history unfinished left) where
   legal : IsLegal (beginning task) history
@@ -114,7 +121,7 @@ module _ (g : Geometry) (task : Task) (options : Options) (w : WorldView) (befor
       ended_so (record { events = events; calls = []; scheduled = scheduled events [] is; within = within_cut events options.cut below; are_left = inl none }) (inl (record {
         complete = subst (λ s. IsComplete s history) on.scripts_are complete;
         none_left = none;
-        tree = subst (λ calls. Strict (beginning task) history calls left) none (subst (λ (m : Mode). Permitted m (beginning task) history unfinished left) on.strict permitted);
+        tree = one_tree task.mode on.mode (beginning task) history left (subst (λ (calls : List Unfinished). Permitted task.mode (beginning task) history calls left) none permitted);
       }))
 
   -- the power went

@@ -1,5 +1,5 @@
 -- The World that a run begins with.
-use Rattle.std.specs.Prelude.{◌≡◌, List}
+use Rattle.std.specs.Prelude.{◌≡◌, ◌≢◌, List}
 use Rattle.command_line.specs.layout_model.Places.{Geometry}
 use Rattle.command_line.specs.pm_model.Words.{Words}
 use Rattle.split_machine.specs.image_model.Content.{content}
@@ -17,7 +17,7 @@ use Rattle.split_machine.specs.course_laws.Runs.{IsFirst}
 use Rattle.split_machine.specs.world_image_laws.BeginningLaws.{IsShapeOf}
 use Rattle.split_top.specs.Runs.{beginning, IsRun, Task, task_on}
 
--- The World of a task on a device with these numbers: nothing has begun. It is in strict mode, the one that a World has
+-- The World of a task on a device with these numbers: nothing has begun. It is in strict mode or sync mode, those that a World has
 -- by now.
 pub record IsWorldOn (g : Geometry) (task : Task) (w : WorldView) : Type 0 where
   pub first : IsFirst w
@@ -25,7 +25,7 @@ pub record IsWorldOn (g : Geometry) (task : Task) (w : WorldView) : Type 0 where
   pub lines : task.lines ≡ g.log
   pub start : w.start ≡ beginning task
   pub scripts_are : w.scripts ≡ task.scripts
-  pub strict : task.mode ≡ Mode.Strict
+  pub mode : task.mode ≢ Mode.Posix
 
 -- THE WORLD BEGINS ON THE WORDS OF AN IMAGE: on the tree of their content, with the shape of its numbers.
 pub record BeginsOn (image : Words) (g : Geometry) (scripts : Scripts) (mode : Mode) (w : WorldView) : Type 0 where

@@ -2,7 +2,7 @@
 //!
 //! Whoever calls it may rely on the clauses of `top` alone. The chief one is `done`: what was put is the text of a
 //! history and of a tree (`report_text`) where the history is legal and follows the script, and the tree is one that
-//! strict mode permits for it (`specs/Runs.antt`). Every other status says when it comes and what it leaves.
+//! the mode permits for it, strict or sync (`specs/Runs.antt`). Every other status says when it comes and what it leaves.
 //!
 //! A script is read by `script_text`, and run by `split_machine` in a World (`split_world`) that is mounted on the image,
 //! with power for as many steps as `stop` says. What is printed comes from the device that is left: it is mounted again

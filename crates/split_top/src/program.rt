@@ -48,17 +48,17 @@ fn do_command<F: Files, K: Sink>(
 ///   the line `D data blocks` is put.
 /// - `tree IMAGE`: the image is read, checked and mounted, and its tree is put. `-` is the fresh default image. Live
 ///   entries of the log count: the tree is the one that they leave.
-/// - `step IMAGE S strict`, then the options `order LIST` or `seed N`, `cut E`, `stop N`, `again NUMBERS`, `choose C` and
+/// - `step IMAGE S MODE`, then the options `order LIST` or `seed N`, `cut E`, `stop N`, `again NUMBERS`, `choose C` and
 ///   `keep NAME`: the image is read, checked and mounted (`-` is the fresh default one); then the script S is read, checked
-///   and run on it in strict mode, the set-up first, then its threads picked by the numbers of LIST (1 to 65,536 of them,
-///   below 8), behind which they come in turn, by draws from N, or in turn; the file NAME is replaced by the image that is
+///   and run on it in the mode, `strict` or `sync`, the set-up first, then its threads picked by the numbers of LIST (1 to 65,536 of
+///   them, below 8), behind which they come in turn, by draws from N, or in turn; the file NAME is replaced by the image that is
 ///   left; then the history of the calls and the tree that is left are put at once. With `cut E` the power goes behind E
 ///   events, with `stop N` after N device steps; a word that is not durable is what `choose C` says (`oldest`, `newest`,
 ///   `even`, `odd`, or a number for draws from it as a seed); and the image that is left is mounted again. With `again`, 1 to
 ///   8 numbers with commas between them, it is mounted once more before that for each of them, with power for so many steps:
 ///   where they run out, the choice is applied again to what the mount hands back; where they last, the mounted device goes
-///   on. Whatever they are, the tree is one that strict mode permits for the history.
-/// - `load N T strict`: the scripts of a load of N calls, at most 500, for each of T threads, 1 to 8, are run on a fresh
+///   on. Whatever they are, the tree is one that the mode permits for the history.
+/// - `load N T MODE`: the scripts of a load of N calls, at most 500, for each of T threads, 1 to 8, are run on a fresh
 ///   image of 4,096 blocks, 256 log lines, 64 inode lines and 128 name lines, the threads in turn; then five sums of the
 ///   history and the tree are put: `calls`, `refused`, `written`, `files` and `bytes`.
 ///

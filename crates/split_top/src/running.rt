@@ -1,5 +1,5 @@
 //! A script is read, run on an image, and told.
-ghost use Rattle.std.specs.Prelude.{◌≡◌, List, ℕ, None, IfErr, IfOk};
+ghost use Rattle.std.specs.Prelude.{◌≡◌, ◌≢◌, List, ℕ, None, IfErr, IfOk};
 ghost use Rattle.command_line.specs.pm_model.Cells.{AllSingle};
 ghost use Rattle.command_line.specs.script_text.Scripts.{bad_line};
 ghost use Rattle.command_line.specs.Seen.{seen_options};
@@ -35,7 +35,7 @@ fn outcome_of(
 ) -> Result<Outcome, NoMemory>
     requires mounts { CanMount opened.geometry opened.pm }
     requires limits { AreInLimits scripts }
-    requires strict { options.now.mode ≡ Mode.Strict }
+    requires mode { options.now.mode ≢ Mode.Posix }
     ensures single { IfOk result (λ o. AllSingle o.pm) }
     ensures ran { IfOk result (λ o. (image : List ℕ) → IsDeviceOf image opened.pm
         → (kept : List ℕ) → IsDeviceOf kept o.pm
@@ -56,7 +56,7 @@ pub(crate) fn run_script(
     options: &Options<'_>,
 ) -> Result<Outcome, Status>
     requires mounts { CanMount opened.geometry opened.pm }
-    requires strict { options.now.mode ≡ Mode.Strict }
+    requires mode { options.now.mode ≢ Mode.Posix }
     ensures script { IfOk result (λ o. bad_line bytes.now ≡ None) }
     ensures single { IfOk result (λ o. AllSingle o.pm) }
     ensures outcome { IfOk result (λ o. (image : List ℕ) → IsDeviceOf image opened.pm

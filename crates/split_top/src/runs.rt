@@ -1,5 +1,5 @@
 //! A run of scripts: their calls in a World on an image, and what is read back of it.
-ghost use Rattle.std.specs.Prelude.{◌≡◌, List, ℕ, IfOk};
+ghost use Rattle.std.specs.Prelude.{◌≡◌, ◌≢◌, List, ℕ, IfOk};
 ghost use Rattle.command_line.specs.pm_model.Cells.{AllSingle};
 ghost use Rattle.command_line.specs.pm_model.Images.{words_of};
 ghost use Rattle.command_line.specs.pm_model.Words.{word_at};
@@ -57,7 +57,7 @@ fn power_for(stop: Option<u64>) -> Power
 fn world_on(alloc: Global, opened: Opened, scripts: Scripts, mode: Mode) -> Result<World, NoMemory>
     requires mounts { CanMount opened.geometry opened.pm }
     requires limits { AreInLimits scripts }
-    requires strict { mode ≡ Mode.Strict }
+    requires mode { mode ≢ Mode.Posix }
     ensures { IfOk result (BeginsOn (words_of opened.pm) opened.geometry scripts mode) }
 {
     let mut power = Power::always();
@@ -142,7 +142,7 @@ pub(crate) fn run(
 ) -> Result<Ran, NoMemory>
     requires mounts { CanMount opened.geometry opened.pm }
     requires limits { AreInLimits scripts }
-    requires strict { options.now.mode ≡ Mode.Strict }
+    requires mode { options.now.mode ≢ Mode.Posix }
     ensures ran { IfOk result (λ ran.
         IsRanOn (words_of opened.pm) opened.geometry scripts (seen_options options.now) ran.history.items ran.unfinished.items ran.tree) }
     ensures single { IfOk result (λ ran. AllSingle ran.pm) }

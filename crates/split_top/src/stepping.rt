@@ -1,6 +1,6 @@
 //! The command `step`: a script is read and run on an image; the image that is left is kept where a name says so, and the
 //! history and the tree that is left are put.
-ghost use Rattle.std.specs.Prelude.{◌≡◌, List, ℕ, Err, IfErr, IsSome, OnErr, OnOk};
+ghost use Rattle.std.specs.Prelude.{◌≡◌, ◌≢◌, List, ℕ, Err, IfErr, IsSome, OnErr, OnOk};
 ghost use Rattle.outside.specs.Outside.{Rose};
 ghost use Rattle.command_line.specs.pm_model.Cells.{AllSingle};
 ghost use Rattle.command_line.specs.Command as commands;
@@ -79,7 +79,7 @@ fn run_on<F: Files, K: Sink>(
     out: &mut K,
 ) -> Status
     requires mounts { CanMount opened.geometry opened.pm }
-    requires strict { options.now.mode ≡ Mode.Strict }
+    requires mode { options.now.mode ≢ Mode.Posix }
     ensures { (named : commands.Image) (image : List ℕ) → AreOfImage (F.told files.old) named image
         → IsDeviceOf image opened.pm
         → IsAnswer (commands.Step (record { image = named; script = script.now; options = seen_options options.now })) (F.told files.old) (F.told files.new) (K.told out.old) (K.told out.new) (Rose (F.misses files.old) (F.misses files.new)) (Rose (F.faults files.old) (F.faults files.new)) (Rose (K.faults out.old) (K.faults out.new)) result }
@@ -103,7 +103,7 @@ pub(crate) fn run_step<F: Files, K: Sink>(
     files: &mut F,
     out: &mut K,
 ) -> Status
-    requires { options.now.mode ≡ Mode.Strict }
+    requires { options.now.mode ≢ Mode.Posix }
     ensures { IsAnswer (commands.Step (record { image = seen_image image.now; script = script.now; options = seen_options options.now })) (F.told files.old) (F.told files.new) (K.told out.old) (K.told out.new) (Rose (F.misses files.old) (F.misses files.new)) (Rose (F.faults files.old) (F.faults files.new)) (Rose (K.faults out.old) (K.faults out.new)) result }
 {
     let bytes = match read_image(alloc, image, files) {

@@ -1,5 +1,5 @@
 //! The options of a run.
-ghost use Rattle.std.specs.Prelude.{◌≡◌, IfOk, IfSome, map, option_map};
+ghost use Rattle.std.specs.Prelude.{◌≡◌, ◌≢◌, IfOk, IfSome, map, option_map};
 ghost use Rattle.std.specs.String.{string_bytes};
 ghost use Rattle.command_line.specs.Command.{choice_of, mode_of, options_in, with_again, with_choice, with_cut, with_keep, with_order, with_seed, with_stop};
 ghost use Rattle.command_line.specs.Seen.{seen_options};
@@ -56,10 +56,11 @@ fn read_choice(word: &str) -> Option<Choice>
 /// The mode that a word says, of those that are built.
 pub(crate) fn read_mode(word: &str) -> Option<Mode>
     ensures mode { result ≡ mode_of word.now }
-    ensures built { IfSome result (λ mode. mode ≡ Mode.Strict) }
+    ensures built { IfSome result (λ mode. mode ≢ Mode.Posix) }
 {
     match word {
         "strict" => Some(Mode::Strict),
+        "sync" => Some(Mode::Sync),
         _ => None,
     }
 }

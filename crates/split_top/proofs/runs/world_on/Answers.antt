@@ -9,7 +9,7 @@ pub mount-requires-clause-limits : goal.mount-requires-clause-limits
 mount-requires-clause-limits c = c.requires.limits
 
 pub returns-in-Ok : goal.returns-in-Ok
-returns-in-Ok c = begins-on c.args.opened.geometry c.args.opened.pm c.requires.mounts c.args.scripts c.in-Ok.world c.args.mode c.requires.strict c.requires.limits c.in-Ok.ensures.answer.1
+returns-in-Ok c = begins-on c.args.opened.geometry c.args.opened.pm c.requires.mounts c.args.scripts c.in-Ok.world c.args.mode c.requires.mode c.requires.limits c.in-Ok.ensures.answer.1
 
 pub unreachable-requires : goal.unreachable-requires
 unreachable-requires c =

@@ -5,6 +5,7 @@ use std::test::Fail;
 const DATABASES: &str = "\
 # examples/rollback_journal.txt: where the journal stands, the page is taken back from it.
 row a_database_with_a_rollback_journal
+modes strict sync
 image 64 16 16 16
 losses every 13
 open db /db rwc = fd 0
@@ -23,6 +24,7 @@ tree = / dir; /db file 8192 61*4096+62*4096
 
 # examples/key_value_log.txt: each record is there whole as soon as its write returned.
 row a_key_value_log
+modes strict sync
 image 64 16 16 16
 losses every 13
 open log /log rwac = fd 0
@@ -64,7 +66,7 @@ const SQLITE: &str = "\
 # examples/sqlite.txt: what SQLite 3.40 did for two accounts and a transfer between them. Its calls were made again in a fresh
 # directory of an ext4 file system under Linux 6.18, which answered so and left this tree.
 row sqlite_behind_a_rollback_journal
-modes strict
+modes strict sync
 losses every 997
 stat /bank.db = ENOENT
 open bankdb /bank.db rwc = fd 0
@@ -143,4 +145,9 @@ fn database_journal_1(rt: HostRuntime) -> Result<(), Fail> {
 #[test]
 fn database_journal_2(rt: HostRuntime) -> Result<(), Fail> {
     assert_part(&rt, "losses every 39 from 26", JOURNAL)
+}
+
+#[test]
+fn database_journal_in_sync_mode(rt: HostRuntime) -> Result<(), Fail> {
+    assert_part(&rt, "modes sync\nlosses every 97", JOURNAL)
 }

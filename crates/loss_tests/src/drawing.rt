@@ -115,6 +115,19 @@ pub(crate) fn drawn_script(
     Ok(script)
 }
 
+// So many calls of each of two threads.
+pub(crate) fn drawn_threads(
+    alloc: Global,
+    draws: &mut Draws,
+    calls: u64,
+) -> Result<String, AllocError> {
+    let (one, other) = (
+        drawn_script(alloc, draws, calls)?,
+        drawn_script(alloc, draws, calls)?,
+    );
+    format!(in alloc; "thread\n{one}thread\n{other}")
+}
+
 // A path of one to three names of four.
 fn deep_path(alloc: Global, draws: &mut Draws) -> Result<String, AllocError> {
     let mut path = String::new(alloc);

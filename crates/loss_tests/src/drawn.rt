@@ -1,9 +1,9 @@
-//! Scripts of one thread that are drawn from a seed, and power losses of them.
+//! Scripts of one thread and of two that are drawn from a seed, and power losses of them.
 //!
 //! A script is run by the top call on an image of its own. What it prints, and the tree of the image that it leaves, must be
 //! what the plain model of the calls says. Then it runs with power losses, each after a drawn number of steps and with a
 //! drawn seed for what the medium has; what is left must be permitted.
-use crate::drawing::{drawn_changes, drawn_script};
+use crate::drawing::{drawn_changes, drawn_script, drawn_threads};
 use split_tables::{Case, Stops, is_permitted};
 use std::alloc::Global;
 use std::test::Fail;
@@ -36,11 +36,26 @@ fn fault_of(alloc: Global, case: &Case, draws: &mut Draws) -> Result<Option<Stri
     first_loss(alloc, case, draws)
 }
 
-// What is wrong with the script of a seed and its losses.
-fn fault_of_seed(alloc: Global, seed: u64) -> Result<Option<String>, RowError> {
+// What is wrong with the script of a seed in a mode and its losses.
+fn fault_of_seed(alloc: Global, mode: &str, seed: u64) -> Result<Option<String>, RowError> {
     let mut draws = Draws::new(seed);
     let script = drawn_script(alloc, &mut draws, CALLS)?;
-    let case = Case::new(alloc, "strict", "256 64 64 128", script.as_str())?;
+    let case = Case::new(alloc, mode, "256 64 64 128", script.as_str())?;
+    fault_of(alloc, &case, &mut draws)
+}
+
+// Likewise with that of two threads, which are picked by draws from the same seed.
+fn fault_of_two(alloc: Global, mode: &str, seed: u64) -> Result<Option<String>, RowError> {
+    let mut draws = Draws::new(seed);
+    let script = drawn_threads(alloc, &mut draws, CALLS / 2)?;
+    let order = format!(in alloc; "seed {seed}")?;
+    let case = Case::ordered(
+        alloc,
+        mode,
+        "256 64 64 128",
+        script.as_str(),
+        order.as_str(),
+    )?;
     fault_of(alloc, &case, &mut draws)
 }
 
@@ -52,14 +67,28 @@ fn is_right(alloc: Global, script: &str) -> Result<bool, RowError> {
 
 #[test]
 fn losses_of_a_drawn_script(rt: HostRuntime) -> Result<(), Fail> {
-    let fault = fault_of_seed(rt.alloc(), 20_261_128)?;
+    let fault = fault_of_seed(rt.alloc(), "strict", 20_261_128)?;
     assert!(rt; fault.is_none(), "{fault:?}");
     Ok(())
 }
 
 #[test]
 fn losses_of_another_drawn_script(rt: HostRuntime) -> Result<(), Fail> {
-    let fault = fault_of_seed(rt.alloc(), 7)?;
+    let fault = fault_of_seed(rt.alloc(), "strict", 7)?;
+    assert!(rt; fault.is_none(), "{fault:?}");
+    Ok(())
+}
+
+#[test]
+fn losses_of_a_drawn_script_in_sync_mode(rt: HostRuntime) -> Result<(), Fail> {
+    let fault = fault_of_seed(rt.alloc(), "sync", 20_261_130)?;
+    assert!(rt; fault.is_none(), "{fault:?}");
+    Ok(())
+}
+
+#[test]
+fn losses_of_two_drawn_scripts_in_sync_mode(rt: HostRuntime) -> Result<(), Fail> {
+    let fault = fault_of_two(rt.alloc(), "sync", 43)?;
     assert!(rt; fault.is_none(), "{fault:?}");
     Ok(())
 }

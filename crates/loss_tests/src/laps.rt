@@ -215,6 +215,11 @@ fn fifty_writes_in_four_lines_2(rt: HostRuntime) -> Result<(), Fail> {
 }
 
 #[test]
+fn fifty_writes_in_sync_mode(rt: HostRuntime) -> Result<(), Fail> {
+    assert_part(&rt, "modes sync\nlosses every 97", FIFTY)
+}
+
+#[test]
 fn five_writes_of_33_blocks_0(rt: HostRuntime) -> Result<(), Fail> {
     assert_part(&rt, "losses every 39 from 0", FIVE)
 }

@@ -4,7 +4,7 @@
 //! remarks say. With `losses every N` a script is run again with a loss after each so many steps, each with five choices of what
 //! the medium has; what is left must be permitted in each of the modes that its option `modes` names. A test has a minute, on a
 //! machine that may be slow: where it would take long, some tests have the same row, and each a part of the losses (`parts`).
-//! `drawn` has scripts that are drawn from a seed.
+//! `overwrites` has what sync mode alone does, `drawn` scripts that are drawn from a seed.
 //!
 //! What is tested is shown alone. Stands on `split_tables` and `test_kit`.
 #![tactic(auto)]
@@ -19,6 +19,8 @@ mod drawn;
 mod laps;
 #[cfg(test)]
 mod names;
+#[cfg(test)]
+mod overwrites;
 #[cfg(test)]
 mod parts;
 #[cfg(test)]

@@ -16,6 +16,7 @@ tree = / dir; /f file 2 6869
 
 # What is written over the border of two blocks is read back; what is behind the end is nothing.
 row over_the_border_of_two_blocks
+modes strict sync
 image 64 16 16 16
 losses every 13
 open f /f rwc = fd 0
@@ -39,6 +40,7 @@ tree = / dir; /f file 5009 61*4094+62626262+61*902+63*9
 
 # A file is cut and grows between writes, with and without bytes that are staged.
 row a_file_is_cut_and_grows
+modes strict sync
 image 64 16 16 16
 losses every 13
 open f /f rwc = fd 0
@@ -78,6 +80,7 @@ tree = / dir
 
 # It is written, read and published while it is open, and is gone after a loss, or once it is closed.
 row a_file_without_a_name_is_published
+modes strict sync
 image 64 16 16 16
 losses every 13
 open f /f rwc = fd 0
@@ -99,6 +102,7 @@ tree = / dir; /f file 9 64*9
 const HANDLES: &str = "\
 # One appends, whatever the other wrote; offsets are their own, but those of a dup.
 row two_handles_of_one_file
+modes strict sync
 image 64 16 16 16
 losses every 13
 open a /f rwac = fd 0
@@ -125,6 +129,7 @@ tree = / dir; /f file 13 62646462626161666163636365
 
 # The first block is published, the second was never written, the third is staged, and the file ends in the fourth.
 row a_read_over_all_kinds_of_blocks
+modes strict sync
 image 64 16 16 16
 losses every 13
 open f /f rwc = fd 0
@@ -147,6 +152,7 @@ tree = / dir; /f file 0
 const GAPS: &str = "\
 # What lies between the end of a file and a write behind it is zeros.
 row writes_with_a_gap
+modes strict sync
 image 64 16 16 16
 losses every 13
 open f /f rwc = fd 0

@@ -1,7 +1,7 @@
 //! Each call on files and sink in memory that fails once.
 use crate::images::{no_files, told, words_of};
 use outside::{Files, MemFiles, MemSink};
-use split_sessions::answer_over;
+use split_tables::answer_over;
 use std::alloc::{AllocError, Global};
 use std::test::Fail;
 use test_kit::RowError;

@@ -2,8 +2,7 @@
 use command_line::Status;
 use outside::{Files, MemFiles};
 use pm_lines::Choice;
-use split_sessions::answer;
-use split_top::remount_image;
+use split_tables::{answer, remount_image};
 use std::alloc::{AllocError, Global};
 use test_kit::RowError;
 

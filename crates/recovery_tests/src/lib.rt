@@ -5,8 +5,8 @@
 //! blocks. `edges` has images at the edges of what is allowed: high bases of the log, pending journals of each size, and live entries that
 //! leave just the blocks that they need; each is mounted, cut at every step and mounted again. `steps` counts the steps of a mount.
 //!
-//! What is tested is shown alone. Stands on `split_top`, whose `run_image` and `remount_image` it calls, on the worked runs of
-//! `split_cases`, on `split_tables` and `test_kit`.
+//! What is tested is shown alone. Stands on `split_tables`, which hands on `run_image` and `remount_image` of `split_top`, on the worked
+//! runs of `split_cases` and on `test_kit`.
 #![tactic(auto)]
 
 #[cfg(test)]

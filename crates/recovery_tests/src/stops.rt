@@ -1,4 +1,7 @@
 //! Runs that lose their power, judged with the calls that the machine hands out as unfinished.
+ghost use Rattle.std.specs.Prelude.{◌≢◌};
+ghost use Rattle.posix_spec.specs.posix_types.declared.call.Mode.{Mode};
+
 use crate::images::{CHOICES, fresh};
 use command_line::{Options, Status, plain_options};
 use crash_judge::judge;
@@ -6,39 +9,53 @@ use image_layout::Geometry;
 use pm_lines::Choice;
 use posix_spec::{Mode, Shape, root_alone};
 use split_cases::rows;
-use split_tables::{Case, Stops};
-use split_top::{Ran, run_image};
+use split_tables::{Case, Ran, Stops, run_image};
 use std::alloc::{AllocError, Global};
 use std::test::Fail;
 use test_kit::RowError;
 
 const SMALL: &str = "64 4 16 16";
 
-// The place of a worked run among `split_cases::rows`; every how many steps the power goes; and how many calls are unfinished at some of
-// these losses, or more.
-type Row = (usize, u64, usize);
+// The word of a mode; the place of a worked run among `split_cases::rows`; every how many steps the power goes; and how many calls are unfinished at
+// some of these losses, or more.
+type Row = (&'static str, usize, u64, usize);
 
 // Without what cuts them. Of the scripts with two threads the threads come in turn.
-const ROWS: [Row; 7] = [
+const ROWS: [Row; 9] = [
     // One directory.
-    (1, 1, 1),
+    ("strict", 1, 1, 1),
     // A hole in the log.
-    (5, 13, 2),
+    ("strict", 5, 13, 2),
     // A new lap.
-    (6, 13, 1),
+    ("strict", 6, 13, 1),
     // An overwrite over the border of two blocks.
-    (7, 13, 1),
+    ("strict", 7, 13, 1),
+    ("sync", 7, 13, 1),
     // An unlinked file that is written.
-    (10, 13, 1),
+    ("strict", 10, 13, 1),
     // A rename over a busy file.
-    (11, 13, 1),
+    ("strict", 11, 13, 1),
     // A truncate, and a file that grows.
-    (13, 13, 1),
+    ("strict", 13, 13, 1),
+    ("sync", 13, 13, 1),
 ];
 
 // Two writes to one file, which is busy while one of them is out.
 const TWO_WRITES: &str =
     "setup\nopen a /f wac\nopen b /f wac\nthread\nwrite a 616263\nthread\nwrite b 7879\n";
+
+// Two writes in sync mode that begin before the block of their file's end: both write in place when they finish.
+const TWO_FRONTS: &str = "\
+setup
+open x /x wc
+write x 61*5000
+open y /y wc
+write y 63*5000
+thread
+pwrite x 4000 62*1090
+thread
+pwrite y 3000 64*2090
+";
 
 fn shape() -> Result<Shape, RowError> {
     match Geometry::checked(64, 4, 16, 16) {
@@ -47,9 +64,21 @@ fn shape() -> Result<Shape, RowError> {
     }
 }
 
-// What a script leaves on an image where the power goes after so many steps.
+// The mode that a word of these rows names.
+fn mode_of(word: &str) -> Mode
+    ensures { result ≢ Mode.Posix }
+{
+    if word == "sync" {
+        Mode::Sync
+    } else {
+        Mode::Strict
+    }
+}
+
+// What a script leaves on an image in a mode where the power goes after so many steps.
 fn ran(
     alloc: Global,
+    mode: &str,
     image: &[u8],
     script: &str,
     steps: u64,
@@ -58,7 +87,7 @@ fn ran(
     let options = Options {
         stop: Some(steps),
         choice,
-        ..plain_options(Mode::Strict)
+        ..plain_options(mode_of(mode))
     };
     match run_image(
         alloc,
@@ -73,11 +102,11 @@ fn ran(
 }
 
 // Whether the mode permits what is left.
-fn is_judged(alloc: Global, ran: &Ran) -> Result<bool, RowError> {
+fn is_judged(alloc: Global, mode: &str, ran: &Ran) -> Result<bool, RowError> {
     let start = root_alone(alloc)?;
     Ok(judge(
         alloc,
-        Mode::Strict,
+        mode_of(mode),
         shape()?,
         &start,
         &ran.history,
@@ -90,14 +119,15 @@ fn is_judged(alloc: Global, ran: &Ran) -> Result<bool, RowError> {
 // the mode forbids.
 fn most_at(
     alloc: Global,
+    mode: &str,
     image: &[u8],
     script: &str,
     steps: u64,
 ) -> Result<Option<usize>, RowError> {
     let mut most: usize = 0;
     for choice in CHOICES {
-        let ran = ran(alloc, image, script, steps, choice)?;
-        if !is_judged(alloc, &ran)? {
+        let ran = ran(alloc, mode, image, script, steps, choice)?;
+        if !is_judged(alloc, mode, &ran)? {
             return Ok(None);
         }
         most = most.max(ran.unfinished.len());
@@ -106,9 +136,9 @@ fn most_at(
 }
 
 // How many calls are unfinished at most, at one of the losses of a script, the last of which is at the end of the unmount.
-fn most_of(alloc: Global, script: &str, every: u64) -> Result<Option<usize>, RowError> {
+fn most_of(alloc: Global, mode: &str, script: &str, every: u64) -> Result<Option<usize>, RowError> {
     let image = fresh(alloc, SMALL)?;
-    let case = Case::new(alloc, "strict", SMALL, script)?;
+    let case = Case::new(alloc, mode, SMALL, script)?;
     let stops = Stops::of_all(alloc, &case, 0, every)?;
     let mut most: usize = 0;
     let mut steps: u64 = 0;
@@ -116,7 +146,7 @@ fn most_of(alloc: Global, script: &str, every: u64) -> Result<Option<usize>, Row
         if steps > stops.last {
             return Ok(Some(most));
         }
-        let Some(count) = most_at(alloc, &image, script, steps)? else {
+        let Some(count) = most_at(alloc, mode, &image, script, steps)? else {
             return Ok(None);
         };
         most = most.max(count);
@@ -127,12 +157,12 @@ fn most_of(alloc: Global, script: &str, every: u64) -> Result<Option<usize>, Row
 
 #[test]
 fn losses_with_the_calls_of_the_machine(rt: HostRuntime) -> Result<(), Fail> {
-    for (place, every, unfinished) in ROWS {
+    for (mode, place, every, unfinished) in ROWS {
         let script = rows().get(place).copied().unwrap_or("");
-        let most = most_of(rt.alloc(), script, every)?;
+        let most = most_of(rt.alloc(), mode, script, every)?;
         assert!(rt;
             matches!(most, Some(most) if most >= unfinished),
-            "worked run {place}"
+            "{mode}: worked run {place}"
         );
     }
     Ok(())
@@ -140,7 +170,14 @@ fn losses_with_the_calls_of_the_machine(rt: HostRuntime) -> Result<(), Fail> {
 
 #[test]
 fn losses_while_a_file_is_busy(rt: HostRuntime) -> Result<(), Fail> {
-    let most = most_of(rt.alloc(), TWO_WRITES, 13)?;
+    let most = most_of(rt.alloc(), "strict", TWO_WRITES, 13)?;
     assert!(rt; matches!(most, Some(most) if most >= 1));
+    Ok(())
+}
+
+#[test]
+fn losses_while_two_writes_finish_in_place(rt: HostRuntime) -> Result<(), Fail> {
+    let most = most_of(rt.alloc(), "sync", TWO_FRONTS, 31)?;
+    assert!(rt; matches!(most, Some(most) if most >= 2));
     Ok(())
 }

@@ -83,6 +83,46 @@ tree = / dir; /f file 5 6162637879
 tree = / dir; /f file 10 61626378796162637879
 ";
 
+// The first write begins before the block of its file's end, and writes those bytes in place when it finishes. The second one is out
+// meanwhile, and the third is within its file's length, over the border of two blocks: one event.
+const FRONTS: &str = "\
+# In turn: the third call returns first. When the first one finishes, the second one's entry is durable.
+row a_front_beside_writes
+modes sync
+image 64 4 16 16
+losses every 13 from 2500 cuts 28
+s: open x /x wc = fd 0
+s: write x 61*5000 = count 5000
+s: open y /y wc = fd 1
+s: open z /z wc = fd 2
+s: write z 64*5000 = count 5000
+tree = / dir; /x file 5000 61*5000; /y file 0; /z file 5000 64*5000
+2: pwrite z 4090 65*300 = count 300
+tree = / dir; /x file 5000 61*5000; /y file 0; /z file 5000 64*4090+65*300+64*610
+0: pwrite x 3700 62*1390 = count 1390
+tree = / dir; /x file 5090 61*3700+62*1390; /y file 0; /z file 5000 64*4090+65*300+64*610
+1: write y 63 = count 1
+tree = / dir; /x file 5090 61*3700+62*1390; /y file 1 63; /z file 5000 64*4090+65*300+64*610
+
+# The second one is filled, and the third begins once the first one has stored its entry, before it is durable.
+row a_front_beside_a_write_that_is_filled
+modes sync
+image 64 4 16 16
+order 0,1,0,1,0,0,2,0,0
+losses every 13 from 2500 cuts 28
+s: open x /x wc = fd 0
+s: write x 61*5000 = count 5000
+s: open y /y wc = fd 1
+s: open z /z wc = fd 2
+s: write z 64*5000 = count 5000
+tree = / dir; /x file 5000 61*5000; /y file 0; /z file 5000 64*5000
+2: pwrite z 4090 65*300 = count 300
+0: pwrite x 3700 62*1390 = count 1390
+tree = / dir; /x file 5090 61*3700+62*1390; /y file 0; /z file 5000 64*4090+65*300+64*610
+1: write y 63 = count 1
+tree = / dir; /x file 5090 61*3700+62*1390; /y file 1 63; /z file 5000 64*4090+65*300+64*610
+";
+
 // Asserts that a row goes `ok` with these losses, the last of its options.
 fn assert_part(rt: &HostRuntime, losses: &str, row: &str) -> Result<(), Fail> {
     let row = format!(in rt.alloc(); "{row}{losses}\n")?;
@@ -119,6 +159,12 @@ fn three_writes_at_the_last_third(rt: HostRuntime) -> Result<(), Fail> {
 #[test]
 fn names_change_beside_writes(rt: HostRuntime) -> Result<(), Fail> {
     assert_rows(&rt, BESIDE, 2, &losses_told)?;
+    Ok(())
+}
+
+#[test]
+fn fronts_are_written_beside_writes(rt: HostRuntime) -> Result<(), Fail> {
+    assert_rows(&rt, FRONTS, 2, &losses_told)?;
     Ok(())
 }
 

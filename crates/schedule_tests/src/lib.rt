@@ -2,8 +2,8 @@
 //!
 //! `beside` has tables in the language of `test_kit`, run by `split_tables`, with two and three calls in flight at each step,
 //! and rounds that end while calls are in flight. `interleavings` has all orders of two threads that write, each cut behind every
-//! event. `seeds` has eight threads by forty seeds, and `many` the longest script. What is left by a loss is judged, and where the
-//! events say what has to be left, it has to be that.
+//! event. `seeds` has eight threads by forty seeds, and by ten in sync mode, and `many` the longest script. What is left by a loss
+//! is judged, and where the events say what has to be left, it has to be that.
 //!
 //! What is tested is shown alone. Stands on `split_tables` and `test_kit`.
 #![tactic(auto)]

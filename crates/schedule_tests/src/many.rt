@@ -1,7 +1,7 @@
 //! The longest script: eight threads in turn, each with a file of its own, 4,096 calls with those of the set-up.
 use crate::telling::otherwise;
 use outside::MemFiles;
-use split_sessions::answer;
+use split_tables::answer;
 use std::alloc::{AllocError, Global};
 use std::test::Fail;
 

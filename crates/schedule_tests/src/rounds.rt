@@ -1,6 +1,5 @@
 //! Rounds that end while calls are in flight. All rows are worked by hand.
-use split_sessions::session_told;
-use split_tables::losses_told;
+use split_tables::{losses_told, session_told};
 use std::test::Fail;
 use test_kit::assert_rows;
 

@@ -1,4 +1,4 @@
-//! Eight threads of six calls each by forty seeds, on an image with four log lines and 56 data blocks.
+//! Eight threads of six calls each by forty seeds, and by ten in sync mode, on an image with four log lines and 56 data blocks.
 //!
 //! Of 16 writes four have a line of the log at a time, so that rounds end with calls that are given up; and one file has most of
 //! the room, so that it is short while writes are in flight. Each run is that of the model. Then the power goes, so many steps
@@ -75,10 +75,10 @@ close h
 // Every how many steps the power goes: 8 times 13. All stops that are 13 apart are tried by `tools/threads.py`.
 const EVERY: u64 = 104;
 
-// The script by a seed.
-fn case_of(alloc: Global, seed: u64) -> Result<Case, RowError> {
+// The script in a mode, by a seed.
+fn case_of(alloc: Global, mode: &str, seed: u64) -> Result<Case, RowError> {
     let order = format!(in alloc; "seed {seed}")?;
-    Case::ordered(alloc, "strict", "64 4 16 16", SCRIPT, order.as_str())
+    Case::ordered(alloc, mode, "64 4 16 16", SCRIPT, order.as_str())
 }
 
 // What is wrong with a run or its losses, of which the first one is behind the set-up.
@@ -92,15 +92,15 @@ fn fault_of(alloc: Global, case: &Case, seed: u64) -> Result<Option<String>, Row
 }
 
 // What is wrong with the run of a seed.
-fn fault_of_seed(alloc: Global, seed: u64) -> Result<Option<String>, RowError> {
-    let case = case_of(alloc, seed)?;
+fn fault_of_seed(alloc: Global, mode: &str, seed: u64) -> Result<Option<String>, RowError> {
+    let case = case_of(alloc, mode, seed)?;
     fault_of(alloc, &case, seed)
 }
 
-// Asserts that the runs of these seeds go right.
-fn assert_seeds(rt: &HostRuntime, first: u64, last: u64) -> Result<(), Fail> {
+// Asserts that the runs of these seeds go right in a mode.
+fn assert_seeds(rt: &HostRuntime, mode: &str, first: u64, last: u64) -> Result<(), Fail> {
     for seed in first..last {
-        if let Some(fault) = fault_of_seed(rt.alloc(), seed)? {
+        if let Some(fault) = fault_of_seed(rt.alloc(), mode, seed)? {
             let text = format!(in rt.alloc(); "seed {seed}: {fault}")?;
             return Err(otherwise(rt, text.as_str()).into());
         }
@@ -110,20 +110,25 @@ fn assert_seeds(rt: &HostRuntime, first: u64, last: u64) -> Result<(), Fail> {
 
 #[test]
 fn seeds_below_11(rt: HostRuntime) -> Result<(), Fail> {
-    assert_seeds(&rt, 1, 11)
+    assert_seeds(&rt, "strict", 1, 11)
 }
 
 #[test]
 fn seeds_below_21(rt: HostRuntime) -> Result<(), Fail> {
-    assert_seeds(&rt, 11, 21)
+    assert_seeds(&rt, "strict", 11, 21)
 }
 
 #[test]
 fn seeds_below_31(rt: HostRuntime) -> Result<(), Fail> {
-    assert_seeds(&rt, 21, 31)
+    assert_seeds(&rt, "strict", 21, 31)
 }
 
 #[test]
 fn seeds_below_41(rt: HostRuntime) -> Result<(), Fail> {
-    assert_seeds(&rt, 31, 41)
+    assert_seeds(&rt, "strict", 31, 41)
+}
+
+#[test]
+fn seeds_below_51_in_sync_mode(rt: HostRuntime) -> Result<(), Fail> {
+    assert_seeds(&rt, "sync", 41, 51)
 }

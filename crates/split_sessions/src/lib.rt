@@ -4,7 +4,7 @@
 //! - `sessions`, with `edits`, `entries` and `forging`: commands over the same files, and edits of these between them.
 //!
 //! The layer above may rely on the clauses of `command`, which are those of `split_top::top` for such files; else nothing is
-//! claimed by a contract: it serves tests. Stands on `split_top`, on the worked runs of `split_cases`, on the files of `outside` and on `test_kit`.
+//! claimed by a contract: it serves tests. It hands on what tests call of `split_top`. Stands on `split_top`, on the worked runs of `split_cases`, on the files of `outside` and on `test_kit`.
 #![tactic(auto)]
 
 mod commands;
@@ -15,3 +15,4 @@ mod sessions;
 
 pub use commands::{answer, answer_over, command, words_of};
 pub use sessions::session_told;
+pub use split_top::{Ran, remount_image, run_image};

@@ -2,7 +2,7 @@
 use crate::images::Image;
 use crate::modes::mode_of;
 use crate::scripts::{kept, printed};
-use posix_spec::{Call, Item, Mode, Scripts, State, Tree, Who, root_alone};
+use posix_spec::{Call, Item, Mode, Scripts, State, Tree, TreeNode, Who, root_alone};
 use std::alloc::Global;
 use std::str::from_utf8;
 use test_kit::{RowError, count_of, next_calls, read_history, scripts_of, shown_items, shown_tree};
@@ -133,6 +133,25 @@ fn add_course(alloc: Global, case: &mut Case, state: &mut State) -> Result<(), R
     add_calls(alloc, case, state, calls)
 }
 
+// How many bytes the files of a state have, of those with a name.
+fn bytes_in(state: &State) -> Result<u64, RowError> {
+    let tree = state.tree()?;
+    let mut count: u64 = 0;
+    for entry in &tree.entries {
+        if let TreeNode::File(data) = &entry.node {
+            count = count.saturating_add(data.bytes.len() as u64);
+        }
+    }
+    Ok(count)
+}
+
+// Whether a write makes its file longer, if that has a name. (No tree shows one that has none.)
+fn lengthens(state: &mut State, who: Who, call: &Call) -> Result<bool, RowError> {
+    let before = bytes_in(state)?;
+    let _outcome = state.apply(who, call)?;
+    Ok(bytes_in(state)? > before)
+}
+
 // Says what the model says of the script, from this tree on.
 fn tell_from(alloc: Global, case: &mut Case, root: &Tree) -> Result<(), RowError> {
     let tree = shown_tree(alloc, root)?;
@@ -173,6 +192,28 @@ impl Case {
     pub(crate) fn next(&self, alloc: Global, calls: usize) -> Result<Vec<(Who, Call)>, RowError> {
         let history = self.items.get(..calls).unwrap_or(&[]);
         Ok(next_calls(alloc, &self.scripts, history)?)
+    }
+
+    // The state behind so many calls.
+    fn state_behind(&self, alloc: Global, calls: usize) -> Result<State, RowError> {
+        let root = root_alone(alloc)?;
+        let mut state = State::open(alloc, &root, self.image.shape, self.mode)?;
+        for item in self.items.get(..calls).unwrap_or(&[]) {
+            let _outcome = state.apply(item.who, &item.call)?;
+        }
+        Ok(state)
+    }
+
+    // Whether a write of a caller makes its file longer behind so many calls.
+    pub(crate) fn lengthens(
+        &self,
+        alloc: Global,
+        calls: usize,
+        who: Who,
+        call: &Call,
+    ) -> Result<bool, RowError> {
+        let mut state = self.state_behind(alloc, calls)?;
+        lengthens(&mut state, who, call)
     }
 
     /// How many calls it has.

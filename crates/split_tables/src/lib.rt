@@ -8,7 +8,8 @@
 //! tree that `judge` permits for these calls with the next one of each caller unfinished: in flight at once may be those that are
 //! logged, and one of the others. The model does the calls of several threads in the order in which a whole run prints them.
 //!
-//! Nothing is claimed by a contract: it serves tests. Stands on `split_sessions` (the top call over files in memory), on
+//! Nothing is claimed by a contract: it serves tests. It hands on what crates of tests call of `split_sessions`, so that they name
+//! this one alone. Stands on `split_sessions` (the top call over files in memory), on
 //! `crash_judge` and on `test_kit`.
 #![tactic(auto)]
 
@@ -23,5 +24,6 @@ mod verdicts;
 
 pub use cases::Case;
 pub use losses::{CHOICES, fault_of, forbidden_in_turn, is_permitted, left_by_cut};
+pub use split_sessions::{Ran, answer, answer_over, remount_image, run_image, session_told};
 pub use stops::{Stops, Unit};
 pub use verdicts::losses_told;

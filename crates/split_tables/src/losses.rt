@@ -3,7 +3,7 @@ use crate::cases::Case;
 use crate::scripts::printed;
 use crate::stops::{Stops, Unit};
 use crash_judge::judge;
-use posix_spec::{Call, Tree, Who, root_alone};
+use posix_spec::{Call, Mode, Tree, Who, root_alone};
 use std::alloc::Global;
 use std::str::from_utf8;
 use test_kit::{RowError, read_tree};
@@ -64,20 +64,49 @@ fn is_left(
     Ok(judge(alloc, mode, shape, &start, history, unfinished, after)?)
 }
 
-// Whether a call is logged where it is not refused. Such calls of several callers may be in flight at once.
-fn is_logged(call: &Call) -> bool {
-    matches!(call, Call::Write(..) | Call::Pwrite(..))
+// Whether a call that comes next is logged where it is not refused. Such calls of several callers may be in flight at once. In sync
+// mode a write within its file's length is not: it is one event.
+fn is_logged(
+    alloc: Global,
+    case: &Case,
+    returned: usize,
+    who: Who,
+    call: &Call,
+) -> Result<bool, RowError> {
+    if !matches!(call, Call::Write(..) | Call::Pwrite(..)) {
+        return Ok(false);
+    }
+    match case.mode {
+        Mode::Strict => Ok(true),
+        Mode::Sync => case.lengthens(alloc, returned, who, call),
+        Mode::Posix => Ok(false),
+    }
+}
+
+// Of the next calls those that are logged.
+fn logged_of(
+    alloc: Global,
+    case: &Case,
+    returned: usize,
+    next: &[(Who, Call)],
+) -> Result<Vec<bool>, RowError> {
+    let mut logged = Vec::new(alloc);
+    for (who, call) in next {
+        logged.push(is_logged(alloc, case, returned, *who, call)?)?;
+    }
+    Ok(logged)
 }
 
 // Of the next calls those that are logged and, of the others, the one at this place.
 fn unfinished_with(
     alloc: Global,
     next: &[(Who, Call)],
+    logged: &[bool],
     other: usize,
 ) -> Result<Vec<(Who, Call)>, RowError> {
     let mut calls = Vec::new(alloc);
     for (place, (who, call)) in next.iter().enumerate() {
-        if place == other || is_logged(call) {
+        if place == other || logged.get(place).copied().unwrap_or(false) {
             calls.push((*who, call.clone()?))?;
         }
     }
@@ -88,11 +117,12 @@ fn unfinished_with(
 // flight at once, and one of the others, which lost its power as it began.
 fn is_left_of(alloc: Global, case: &Case, returned: usize, after: &Tree) -> Result<bool, RowError> {
     let next = case.next(alloc, returned)?;
+    let logged = logged_of(alloc, case, returned, &next)?;
     let mut others: usize = 0;
-    for (place, (_who, call)) in next.iter().enumerate() {
-        if !is_logged(call) {
+    for (place, is_logged) in logged.iter().enumerate() {
+        if !*is_logged {
             others = others.saturating_add(1);
-            let unfinished = unfinished_with(alloc, &next, place)?;
+            let unfinished = unfinished_with(alloc, &next, &logged, place)?;
             if is_left(alloc, case, returned, &unfinished, after)? {
                 return Ok(true);
             }

@@ -1,6 +1,5 @@
 //! How tests assert that the rows of a table go `ok`.
-use split_sessions::session_told;
-use split_tables::losses_told;
+use split_tables::{losses_told, session_told};
 use std::test::Fail;
 use test_kit::assert_rows;
 

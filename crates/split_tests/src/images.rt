@@ -43,7 +43,7 @@ step - S strict choose middle = splitfs: usage
 step - S strict choose odd stop 1 = splitfs: usage
 step - S strict keep n stop 1 = splitfs: usage
 step - S strict keep = splitfs: usage
-step - S sync = splitfs: usage
+step - S posix = splitfs: usage
 # A number chooses by draws from it as a seed. A command reads its image first.
 step - S strict choose 7 = splitfs: no such file S
 step g S strict keep n = splitfs: no such file S

@@ -15,6 +15,7 @@ load 3 2 strict = calls 6; refused 0; written 3824; files 2; bytes 55996
 
 row load_of_eight_threads
 load 500 8 strict = calls 4000; refused 0; written 3072578; files 8; bytes 2042707
+load 500 8 sync = calls 4000; refused 0; written 3072578; files 8; bytes 2042707
 
 # Words that are no load. No file is read or replaced, and the sums are put by one call.
 row words_of_loads

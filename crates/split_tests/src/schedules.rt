@@ -1,5 +1,5 @@
 //! Scripts of several threads, by orders of their events, and cut behind an event.
-use split_sessions::session_told;
+use split_tables::session_told;
 use std::alloc::{AllocError, Global};
 use std::test::Fail;
 use test_kit::assert_rows;

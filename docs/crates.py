@@ -38,15 +38,15 @@ LAYERS: list[tuple[str, str]] = [
     ),
     (
         "Writes, and the calls beside them",
-        "open_files write_jobs write_plan zero_fill write_begin write_end file_calls file_publish file_truncate round_log "
+        "open_files write_jobs write_plan zero_fill in_place write_begin write_end file_calls file_publish file_truncate round_log "
         "in_flight live_model live_step_laws eof_laws",
     ),
     (
         "The World as it runs",
-        "world_view_laws call_laws round_laws run_laws progress_laws world_parts world_begins world_rounds split_world "
-        "split_machine",
+        "world_view_laws call_laws round_laws run_laws event_laws course_laws progress_laws world_parts world_begins world_rounds split_world "
+        "schedule split_machine",
     ),
-    ("The program", "script_text report_text outside command_line split_top splitfs"),
+    ("The program", "script_text report_text split_cases outside command_line split_top splitfs"),
     ("For threads: proved, and used by no command yet", "ruled_turn oplog_tail"),
 ]
 TESTS = "Tests"

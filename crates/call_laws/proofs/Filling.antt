@@ -27,11 +27,11 @@ use Rattle.write_begin.specs.posix_spec.State.{State}
 use Rattle.world_view_laws.specs.in_flight.live_model.open_files.Numbered.{described_as, numbered_as}
 use Rattle.world_view_laws.proofs.open_files_proofs.Lookups.{same_opened}
 use Rattle.world_view_laws.specs.in_flight.staging_files.Keeps.{Staged}
-use Rattle.in_place.specs.zero_fill.live_step_laws.world_write_laws.HolesLaws.{KeepsLine}
-use Rattle.in_place.specs.zero_fill.file_overlay.declared.runs.Run.{Run}
-use Rattle.in_place.specs.zero_fill.file_overlay.Runs.{staged_at}
-use Rattle.in_place.specs.Holes as places
-use Rattle.in_place.specs.Holes.{absent_count, FillsRange}
+use Rattle.write_begin.specs.in_place.live_step_laws.world_write_laws.HolesLaws.{KeepsLine}
+use Rattle.write_begin.specs.in_place.file_overlay.declared.runs.Run.{Run}
+use Rattle.write_begin.specs.in_place.file_overlay.Runs.{staged_at}
+use Rattle.write_begin.specs.in_place.Holes as places
+use Rattle.write_begin.specs.in_place.Holes.{absent_count, FillsRange}
 use Rattle.write_begin.specs.write_plan.AsksLaws.{call_of}
 use Rattle.write_begin.specs.write_plan.Plans.{placed_at}
 use Rattle.write_begin.specs.Begins.{FillsFor, LacksFor}

@@ -42,7 +42,7 @@ use Rattle.world_view_laws.proofs.Handing.{in_front}
 use Rattle.world_view_laws.proofs.Losing.{lost_view}
 use Rattle.world_view_laws.specs.declared.views.over.Over.{Over}
 use Rattle.world_view_laws.proofs.write_end_proofs.Homes.{has_blocks_out}
-use Rattle.world_view_laws.proofs.Holes.{no_holes, unput_holes}
+use Rattle.world_view_laws.proofs.Holes.{no_holes, unput_holes, unput_in_place}
 use Rattle.world_view_laws.specs.Begins.{BeginsJob, EndsRound, HasFilled, IsOfPlan, item_of, LacksBeside, LacksHoles, LacksSpace, LacksStaging, LosesCall, OthersStay, Returns, with_disk}
 use Rattle.world_view_laws.specs.Holes.{file_of}
 use Rattle.world_view_laws.specs.eof_laws.Ends.{FilesEnd}
@@ -137,6 +137,7 @@ module _ (k : View) (t : Tables) (staging : Staged) (files : Files) (w : WorldVi
         published = no_publish who h at x w returned_view;
         of_file = of_open_file k t staging files w who call one call;
         staging = λ mode. sym (ap (λ (d : Disk). d.staging) one.world.disk_is);
+        in_place = λ mode. unput_in_place w who call (disk_of k t staging files) (refused_unput (state_of w) who h at x outcome (answer found_at));
         stay = others_returned k t staging files w one.world one.begins.awake one.out who call one.begins.next one.up one.none one.begins.idle k t files refl going.ends later;
         on = on;
         spent = inl (ap (λ (y : State). y.entries) (sym same_state));
@@ -311,6 +312,11 @@ module _ (k : View) (t : Tables) (staging : Staged) (files : Files) (w : WorldVi
         names_same : (after_call (state_of w) (who, call)).entries ≡ (state_of w).entries
         names_same = (LeavesWhole-put (state_of w) who call (record { node = file_number (state_of w).tables who h; place = start_of (state_of w) who h at; bytes = x }) (puts_of (state_of w) who h at x none_row)).entries
 
+        -- cells alone are others, and the offset of its handle
+        lies : disk_of l moved staged laid ≡ record (disk_of writes.middle t staging files) { cells = l.cells; tables = moved }
+        lies =
+            (λ i. disk_of (writes.in_place i) moved (writes.staging i) (writes.same i))
+
         -- IT RETURNED.
         pub writes_now : (before after : Supply) → is_on after ≡ true → Returns who w (written_view staged) before after
         writes_now before after on = record {
@@ -323,6 +329,11 @@ module _ (k : View) (t : Tables) (staging : Staged) (files : Files) (w : WorldVi
           published = no_publish who h at x w (written_view staged);
           of_file = of_open_file k t staging files w who call one call;
           staging = λ mode. writes.staging ∙ sym (ap (λ (d : Disk). d.staging) one.world.disk_is);
+          in_place = λ mode range placed. record {
+            middle = disk_of writes.middle t staging files;
+            filled = filled_now none_row writes.middle (writes.filled found_at);
+            cells = lies;
+          };
           stay = subst (λ (s : Staged). OthersStay w (written_view s) who) (sym writes.staging)
               (others_returned k t staging files w one.world one.begins.awake one.out who call one.begins.next one.up one.none one.begins.idle l moved laid keeps.base ends_now stands_then);
           on = on;

@@ -1,5 +1,5 @@
 -- A call that is not logged runs to its end.
-use Rattle.std.specs.Prelude.{◌≡◌, ◌⊎◌, ◌<◌, ◌+◌, ◌^◌, ◌++◌, ℕ, true, false, List, [], ◌∷◌, length, Option, Some, None, is_none, is_some, option_map, refl}
+use Rattle.std.specs.Prelude.{◌≡◌, ◌⊎◌, ◌<◌, ◌+◌, ◌^◌, ◌++◌, ℕ, true, false, [], ◌∷◌, length, Option, Some, None, is_none, is_some, option_map, refl}
 use Rattle.std.specs.Option.{option_map_or}
 use Rattle.std.proofs.Common.{arith, ap, ◌∙◌, sym, subst}
 use Rattle.world_view_laws.specs.eof_laws.pm_model.Powers.{is_on, Supply}
@@ -35,7 +35,7 @@ use Rattle.world_view_laws.proofs.Beginning.{lets, lost_call, others_lost, other
 use Rattle.world_view_laws.proofs.Ending.{no_both}
 use Rattle.world_view_laws.proofs.Losing.{lost_view}
 use Rattle.world_view_laws.proofs.open_files_proofs.Lookups.{same_opened}
-use Rattle.world_view_laws.proofs.Holes.{no_holes, unput_holes}
+use Rattle.world_view_laws.proofs.Holes.{no_holes, unput_holes, unput_in_place}
 use Rattle.world_view_laws.specs.Begins.{IsNeed, IsOfOpenFile, item_of, LacksBeside, LosesCall, Publishes, Returns}
 use Rattle.world_view_laws.specs.eof_laws.Ends.{FilesEnd}
 use Rattle.world_view_laws.specs.k_split_laws.Left.{IsLeftOf}
@@ -136,6 +136,7 @@ module _ (k : View) (t : Tables) (staging : Staged) (files : Files) (w : WorldVi
       published = published;
       of_file = of_open_file call;
       staging = λ mode. sym (ap (λ (d : Disk). d.staging) one.world.disk_is);
+      in_place = λ mode. unput_in_place w who call return_view.disk unput;
       stay = others_returned k t staging files w one.world one.begins.awake one.out who call one.begins.next one.up one.none one.begins.idle l u laid base ends stands;
       on = on;
       spent = spent;

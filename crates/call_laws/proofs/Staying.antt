@@ -1,5 +1,5 @@
 -- A World at its next call, and how it stays where the call is not begun.
-use Rattle.std.specs.Prelude.{◌≡◌, ◌≢◌, ◌⊎◌, ◌≤◌, ◌<◌, ◌+◌, ◌-◌, ◌^◌, ℕ, true, List, [], ◌∷◌, length, Option, Some, None, sum_by, refl}
+use Rattle.std.specs.Prelude.{◌≡◌, ◌≢◌, ◌⊎◌, ◌≤◌, ◌<◌, ◌+◌, ◌^◌, ℕ, true, List, [], ◌∷◌, length, Option, Some, None, sum_by, refl}
 use Rattle.std.proofs.Common.{arith, ap, ◌∙◌, sym, subst, inl, inr}
 use Rattle.std.proofs.lemmas.Bool.{cases_lt}
 use Rattle.world_view_laws.specs.eof_laws.pm_model.Powers.{is_on, Supply}
@@ -10,7 +10,7 @@ use Rattle.world_view_laws.specs.eof_laws.posix_types.declared.call.Mode.{Mode}
 use Rattle.world_view_laws.specs.eof_laws.posix_types.declared.call.Who.{Who}
 use Rattle.world_view_laws.specs.eof_laws.posix_tables.Open.{Tables}
 use Rattle.world_view_laws.specs.eof_laws.posix_laws.Views.{need_of}
-use Rattle.world_view_laws.specs.eof_laws.posix_spec.State.{room, State}
+use Rattle.world_view_laws.specs.eof_laws.posix_spec.State.{State}
 use Rattle.world_view_laws.specs.in_flight.Counts.{history_within}
 use Rattle.world_view_laws.specs.in_flight.staging_files.GivesUp.{nothing_staged}
 use Rattle.world_view_laws.specs.in_flight.staging_files.Keeps.{Staged}

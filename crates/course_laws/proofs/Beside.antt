@@ -2,9 +2,9 @@
 use Rattle.std.specs.Prelude.{◌≡◌, ◌≢◌, ◌⊎◌, ◌<◌, ◌+◌, ℕ, Bool, true, false, [], ◌∷◌, ◌++◌, length, Option, Some, None, slice_get, slice_set, if◌then◌else◌, refl}
 use Rattle.std.proofs.Common.{arith, ap, ◌∙◌, sym, subst, inl, inr, length-append}
 use Rattle.std.proofs.lemmas.Option.{same_Some, slice_get_within}
-use Rattle.in_flight.proofs.Taking.{other_who}
-use Rattle.round_log.specs.pm_model.Powers.{Supply}
-use Rattle.round_log.specs.Rounds.{RoundView}
+use Rattle.world_view_laws.proofs.in_flight_proofs.Taking.{other_who}
+use Rattle.event_laws.specs.round_log.pm_model.Powers.{Supply}
+use Rattle.event_laws.specs.round_log.Rounds.{RoundView}
 use Rattle.std.specs.Option.{option_map_or}
 use Rattle.world_view_laws.specs.crash_spec.Busy.{is_logged, is_logged_put, waits_for}
 use Rattle.world_view_laws.specs.in_flight.commute_laws.Flights.{waits_for-put}

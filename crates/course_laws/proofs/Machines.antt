@@ -5,7 +5,7 @@ use Rattle.std.specs.Option.{option_map_or}
 use Rattle.std.proofs.Common.{arith, ap, ◌∙◌, sym, subst}
 use Rattle.std.proofs.lemmas.Bool.{eq-eqb}
 use Rattle.std.proofs.lemmas.Option.{same_Some, slice_get_within}
-use Rattle.in_flight.proofs.Taking.{other_who}
+use Rattle.world_view_laws.proofs.in_flight_proofs.Taking.{other_who}
 use Rattle.world_view_laws.specs.crash_spec.Busy.{is_busy, Out, waits_for}
 use Rattle.world_view_laws.specs.crash_spec.Machine as machine
 use Rattle.world_view_laws.specs.crash_spec.Machine.{is_idle, is_of, is_set_up, item_for, job_of, may_begin, next_of as next_in, outs, state_of as state_in}

@@ -6,9 +6,9 @@ use Rattle.std.proofs.Common.{arith, ap, ◌∙◌, sym, subst, inl, inr}
 use Rattle.std.proofs.lemmas.Bool.{cases_lt}
 use Rattle.std.proofs.lemmas.List.{append-nil}
 use Rattle.std.proofs.lemmas.Option.{same_Some, slice_get_within}
-use Rattle.round_log.specs.oplog_entry.declared.claims.Full.{Full}
-use Rattle.round_log.specs.pm_model.Powers.{Supply}
-use Rattle.round_log.specs.Rounds.{IsClaimed, RoundView}
+use Rattle.event_laws.specs.round_log.oplog_entry.declared.claims.Full.{Full}
+use Rattle.event_laws.specs.round_log.pm_model.Powers.{Supply}
+use Rattle.event_laws.specs.round_log.Rounds.{IsClaimed, RoundView}
 use Rattle.world_view_laws.specs.crash_spec.Busy.{is_busy, is_logged, is_logged_put}
 use Rattle.world_view_laws.specs.crash_spec.Machine as machine
 use Rattle.world_view_laws.specs.crash_spec.Machine.{is_idle, is_of, item_for, job_of, may_begin, MayLackSpace, unfinished_call}

@@ -1,9 +1,9 @@
 -- The machine over events beside a World: what stands in the one stands in the other.
 use Rattle.std.specs.Prelude.{◌≡◌, ◌≢◌, ◌⊎◌, ◌+◌, ◌<◌, ℕ, true, false, List, [], length, Option, Some, None, is_some, slice_get}
-use Rattle.round_log.specs.pm_model.Parts.{Part}
-use Rattle.round_log.specs.pm_model.Powers.{Supply}
-use Rattle.round_log.specs.oplog_entry.declared.claims.Full.{Full}
-use Rattle.round_log.specs.Rounds.{RoundView}
+use Rattle.event_laws.specs.round_log.pm_model.Parts.{Part}
+use Rattle.event_laws.specs.round_log.pm_model.Powers.{Supply}
+use Rattle.event_laws.specs.round_log.oplog_entry.declared.claims.Full.{Full}
+use Rattle.event_laws.specs.round_log.Rounds.{RoundView}
 use Rattle.world_view_laws.specs.posix_types.declared.call.Who.{Who}
 use Rattle.world_view_laws.specs.crash_spec.Busy.{waits_for}
 use Rattle.world_view_laws.specs.crash_spec.Machine as machine

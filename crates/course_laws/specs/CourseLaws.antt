@@ -1,9 +1,9 @@
 -- How the machine over events goes on beside a World, each law as one statement.
 use Rattle.std.specs.Prelude.{◌≡◌, ◌≢◌, ◌⊎◌, ◌<◌, ◌++◌, ℕ, true, false, Contains, List, [], ◌∷◌, length, Option, Some, None, Ok, Err}
-use Rattle.round_log.specs.oplog_entry.declared.claims.Full.{Full}
-use Rattle.round_log.specs.pm_model.Parts.{Part}
-use Rattle.round_log.specs.pm_model.Powers.{Supply}
-use Rattle.round_log.specs.Rounds.{IsClaimed, RoundView}
+use Rattle.event_laws.specs.round_log.oplog_entry.declared.claims.Full.{Full}
+use Rattle.event_laws.specs.round_log.pm_model.Parts.{Part}
+use Rattle.event_laws.specs.round_log.pm_model.Powers.{Supply}
+use Rattle.event_laws.specs.round_log.Rounds.{IsClaimed, RoundView}
 use Rattle.world_view_laws.specs.crash_spec.Machine.{at_rest, Begins, Checkpoint, Event, Goes, have_ended, LacksSpace, Machine, Setting, unfinished_of}
 use Rattle.world_view_laws.specs.crash_spec.Orders.{Order}
 use Rattle.world_view_laws.specs.crash_spec.Schedules.{caller_of, can_run, Course, Reaches, runnable, Scheduled}

@@ -1,8 +1,8 @@
 -- What a run of the scripts of a World is.
 use Rattle.std.specs.Prelude.{◌≡◌, ◌⊎◌, ◌≤◌, ◌<◌, ◌+◌, ◌*◌, ◌^◌, ℕ, true, false, List, [], ◌∷◌, ◌++◌, length, Option, None, Some}
-use Rattle.round_log.specs.pm_model.declared.Cell.{Cell}
-use Rattle.round_log.specs.pm_model.Cells.{AllHome}
-use Rattle.round_log.specs.pm_model.Powers.{is_on, Supply}
+use Rattle.event_laws.specs.round_log.pm_model.declared.Cell.{Cell}
+use Rattle.event_laws.specs.round_log.pm_model.Cells.{AllHome}
+use Rattle.event_laws.specs.round_log.pm_model.Powers.{is_on, Supply}
 use Rattle.world_view_laws.specs.posix_types.declared.item.Item.{Item}
 use Rattle.world_view_laws.specs.posix_spec.Afforded.{Afforded}
 use Rattle.world_view_laws.specs.posix_spec.Run.{Unfinished, IsLegal}

@@ -2,8 +2,8 @@
 use Rattle.std.specs.Prelude.{◌≡◌, ◌≢◌, ◌⊎◌, ◌<◌, ◌≤◌, ◌+◌, ◌*◌, ◌-◌, ℕ, Bool, true, false, List, [], ◌∷◌, ◌++◌, length, map, Option, Some, None, IsSome, nat_lt, if◌then◌else◌, refl}
 use Rattle.std.proofs.Common.{arith, ap, ◌∙◌, sym, subst, inl, inr, length-append}
 use Rattle.std.proofs.lemmas.List.{append-nil}
-use Rattle.round_log.specs.pm_model.Powers.{is_on, Steps, Supply}
-use Rattle.round_log.specs.Rounds.{RoundView}
+use Rattle.run_laws.specs.round_log.pm_model.Powers.{is_on, Steps, Supply}
+use Rattle.run_laws.specs.round_log.Rounds.{RoundView}
 use Rattle.world_view_laws.specs.crash_spec.Busy.{is_logged}
 use Rattle.world_view_laws.specs.crash_spec.ScheduleLaws.{may_write}
 use Rattle.world_view_laws.specs.in_flight.Costs.{most_of, most_of_call}

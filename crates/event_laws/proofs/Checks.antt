@@ -4,12 +4,12 @@ use Rattle.std.specs.List.{list_any}
 use Rattle.std.proofs.Common.{arith, ap, ◌∙◌, sym, subst, inl, inr}
 use Rattle.std.proofs.lemmas.Bool.{and_parts}
 use Rattle.std.proofs.lemmas.Bool.Decides.{nat_tests}
-use Rattle.round_log.specs.layout_model.declared.lines.Draft.{Draft}
-use Rattle.round_log.specs.pm_model.Parts.{Part}
-use Rattle.round_log.specs.pm_model.Powers.{is_on, Steps, Supply}
-use Rattle.round_log.specs.Held.{HoldsRound}
-use Rattle.round_log.specs.Rounds.{RoundView}
-use Rattle.round_log.proofs.Holding.{holds_none}
+use Rattle.run_laws.specs.round_log.layout_model.declared.lines.Draft.{Draft}
+use Rattle.run_laws.specs.round_log.pm_model.Parts.{Part}
+use Rattle.run_laws.specs.round_log.pm_model.Powers.{is_on, Steps, Supply}
+use Rattle.run_laws.specs.round_log.Held.{HoldsRound}
+use Rattle.run_laws.specs.round_log.Rounds.{RoundView}
+use Rattle.run_laws.proofs.round_log_proofs.Holding.{holds_none}
 use Rattle.world_view_laws.specs.in_flight.Counts.{history_within}
 use Rattle.world_view_laws.specs.list_laws.Members.{In}
 use Rattle.world_view_laws.specs.live_model.Standing.{JobOut}

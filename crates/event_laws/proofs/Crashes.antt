@@ -3,12 +3,12 @@ use Rattle.std.specs.Prelude.{◌≡◌, ◌⊎◌, ◌<◌, ◌+◌, ℕ, zero,
 use Rattle.std.specs.List.{cons_option, filter_map}
 use Rattle.std.proofs.Common.{arith, ap, ◌∙◌, sym, subst, inl, inr}
 use Rattle.std.proofs.lemmas.Option.{same_Some, slice_get_within}
-use Rattle.round_log.specs.pm_model.Parts.{Part}
-use Rattle.round_log.specs.layout_model.declared.lines.Draft.{Draft}
-use Rattle.round_log.specs.image_model.LogRule.{HoldsEntry, IsAsAtFirst}
-use Rattle.round_log.specs.oplog_entry.LogLines.{line_at}
-use Rattle.round_log.specs.Held.{HoldsRound}
-use Rattle.round_log.specs.Rounds.{IsRound, RoundView}
+use Rattle.run_laws.specs.round_log.pm_model.Parts.{Part}
+use Rattle.run_laws.specs.round_log.layout_model.declared.lines.Draft.{Draft}
+use Rattle.run_laws.specs.round_log.image_model.LogRule.{HoldsEntry, IsAsAtFirst}
+use Rattle.run_laws.specs.round_log.oplog_entry.LogLines.{line_at}
+use Rattle.run_laws.specs.round_log.Held.{HoldsRound}
+use Rattle.run_laws.specs.round_log.Rounds.{IsRound, RoundView}
 use Rattle.world_view_laws.specs.list_laws.Filters.{filter_map-In, In-filter_map, In-map, map-In}
 use Rattle.world_view_laws.specs.list_laws.Members.{In}
 use Rattle.world_view_laws.specs.live_model.Standing.{JobOut}

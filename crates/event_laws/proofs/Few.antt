@@ -11,8 +11,8 @@ use Rattle.world_view_laws.specs.live_model.Jobs.{without}
 use Rattle.world_view_laws.specs.posix_types.declared.call.Call.{Call}
 use Rattle.world_view_laws.specs.posix_types.declared.call.Who.{Who}
 use Rattle.world_view_laws.specs.posix_spec.Scripted.{IsSetUp}
-use Rattle.in_flight.proofs.CountsCounts.{few_jobs}
-use Rattle.in_flight.proofs.Taking.{one_taken, other_who}
+use Rattle.world_view_laws.proofs.in_flight_proofs.CountsCounts.{few_jobs}
+use Rattle.world_view_laws.proofs.in_flight_proofs.Taking.{one_taken, other_who}
 use Rattle.world_view_laws.specs.Views.{HasNone, next_of, WorldView}
 use Rattle.event_laws.specs.Between.{AreNextCalls, HaveOwnCallers}
 use Rattle.event_laws.proofs.Places.{at_In, In_at, pairs_at, push_cases}

@@ -3,12 +3,12 @@ use Rattle.std.specs.Prelude.{◌≡◌, ◌<◌, ◌≤◌, ◌+◌, ◌^◌, �
 use Rattle.std.specs.List.{remove}
 use Rattle.std.proofs.Common.{arith, ap, ◌∙◌, sym, subst, inl, inr}
 use Rattle.std.proofs.lemmas.Option.{slice_get_within}
-use Rattle.round_log.specs.layout_model.declared.lines.Draft.{Draft}
-use Rattle.round_log.specs.image_model.LogRule.{HoldsEntry}
-use Rattle.round_log.specs.oplog_entry.declared.claims.Full.{Full}
-use Rattle.round_log.specs.oplog_entry.LogLines.{line_at}
-use Rattle.round_log.specs.pm_model.Powers.{is_on, Steps, Supply}
-use Rattle.round_log.specs.Rounds.{IsClaimed, RoundView}
+use Rattle.run_laws.specs.round_log.layout_model.declared.lines.Draft.{Draft}
+use Rattle.run_laws.specs.round_log.image_model.LogRule.{HoldsEntry}
+use Rattle.run_laws.specs.round_log.oplog_entry.declared.claims.Full.{Full}
+use Rattle.run_laws.specs.round_log.oplog_entry.LogLines.{line_at}
+use Rattle.run_laws.specs.round_log.pm_model.Powers.{is_on, Steps, Supply}
+use Rattle.run_laws.specs.round_log.Rounds.{IsClaimed, RoundView}
 use Rattle.world_view_laws.specs.in_flight.Counts.{history_within}
 use Rattle.world_view_laws.specs.live_model.Standing.{JobOut}
 use Rattle.world_view_laws.specs.posix_types.declared.item.Item.{Item}
@@ -22,7 +22,7 @@ use Rattle.world_view_laws.specs.Begins.{IsFilledOut, item_of, OthersStay}
 use Rattle.world_view_laws.specs.Jobs.{Finishes, GivesUp, LosesFinish, over_by}
 use Rattle.world_view_laws.specs.Views.{next_of, state_of, WorldView}
 use Rattle.run_laws.specs.Changes.{after_item}
-use Rattle.in_flight.proofs.Taking.{other_who}
+use Rattle.world_view_laws.proofs.in_flight_proofs.Taking.{other_who}
 use Rattle.run_laws.proofs.Logs.{SameLap}
 use Rattle.run_laws.proofs.Names.{names_later, names_more}
 use Rattle.event_laws.specs.declared.held.Held.{Held}

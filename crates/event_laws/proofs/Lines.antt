@@ -3,20 +3,20 @@ use Rattle.std.specs.Prelude.{◌≡◌, ◌≢◌, ◌⊎◌, ◌<◌, ◌≤�
 use Rattle.std.specs.List.{remove}
 use Rattle.std.proofs.Common.{arith, ap, ◌∙◌, sym, subst, inl, inr, length-append}
 use Rattle.std.proofs.lemmas.Option.{slice_get_within}
-use Rattle.round_log.specs.pm_model.declared.Cell.{Cell}
-use Rattle.round_log.specs.pm_model.declared.Cell.TheVariants.{Two}
-use Rattle.round_log.specs.pm_model.Cells.{cell, has_two, is_lent, newest, oldest}
-use Rattle.round_log.specs.pm_model.Parts.{Part}
-use Rattle.round_log.specs.pm_model.Words.{Words}
-use Rattle.round_log.specs.layout_model.declared.lines.Draft.{Draft}
-use Rattle.round_log.specs.image_model.LogRule.{HoldsEntry, IsAsAtFirst}
-use Rattle.round_log.specs.oplog_entry.declared.claims.Mark.TheVariants.{Lost}
-use Rattle.round_log.specs.oplog_entry.EntryLines.{entry_words, Holds, IsPutOver}
-use Rattle.round_log.specs.oplog_entry.LogLines.{line_at}
-use Rattle.round_log.specs.Held.{HoldsRound}
-use Rattle.round_log.specs.Rounds.{ChangesLine, IsClaimed, IsRound, RoundView}
-use Rattle.round_log.specs.Stores.{HasStored}
-use Rattle.round_log.proofs.Holding.{changes_taken, claims_slot, takes_slot}
+use Rattle.run_laws.specs.round_log.pm_model.declared.Cell.{Cell}
+use Rattle.run_laws.specs.round_log.pm_model.declared.Cell.TheVariants.{Two}
+use Rattle.run_laws.specs.round_log.pm_model.Cells.{cell, has_two, is_lent, newest, oldest}
+use Rattle.run_laws.specs.round_log.pm_model.Parts.{Part}
+use Rattle.run_laws.specs.round_log.pm_model.Words.{Words}
+use Rattle.run_laws.specs.round_log.layout_model.declared.lines.Draft.{Draft}
+use Rattle.run_laws.specs.round_log.image_model.LogRule.{HoldsEntry, IsAsAtFirst}
+use Rattle.run_laws.specs.round_log.oplog_entry.declared.claims.Mark.TheVariants.{Lost}
+use Rattle.run_laws.specs.round_log.oplog_entry.EntryLines.{entry_words, Holds, IsPutOver}
+use Rattle.run_laws.specs.round_log.oplog_entry.LogLines.{line_at}
+use Rattle.run_laws.specs.round_log.Held.{HoldsRound}
+use Rattle.run_laws.specs.round_log.Rounds.{ChangesLine, IsClaimed, IsRound, RoundView}
+use Rattle.run_laws.specs.round_log.Stores.{HasStored}
+use Rattle.run_laws.proofs.round_log_proofs.Holding.{changes_taken, claims_slot, takes_slot}
 use Rattle.world_view_laws.specs.list_laws.Members.{In}
 use Rattle.world_view_laws.specs.posix_types.declared.call.Who.{Who}
 use Rattle.world_view_laws.specs.write_end.Lines.{IsJobLine}

@@ -1,7 +1,7 @@
 -- What events take of the power is paid for.
 use Rattle.std.specs.Prelude.{◌≡◌, ◌≤◌, ◌+◌, ◌*◌, ◌^◌, ℕ, Bool, true, false, List, Option, Some, None, if◌then◌else◌, refl}
 use Rattle.std.proofs.Common.{arith, ap, ◌∙◌, sym}
-use Rattle.round_log.specs.pm_model.Powers.{Steps, Supply}
+use Rattle.run_laws.specs.round_log.pm_model.Powers.{Steps, Supply}
 use Rattle.world_view_laws.specs.in_flight.Costs.{most_of, most_of_call}
 use Rattle.world_view_laws.specs.posix_types.declared.call.Call.{Call}
 use Rattle.world_view_laws.specs.posix_spec.Afforded.{moves_data}

@@ -4,10 +4,10 @@ use Rattle.std.specs.List.{remove}
 use Rattle.std.proofs.Common.{ap, ◌∙◌, sym, subst, inl, inr}
 use Rattle.std.proofs.lemmas.Bool.{cases_eq}
 use Rattle.std.proofs.lemmas.Option.{same_Some, slice_get_within}
-use Rattle.round_log.specs.pm_model.Parts.{Part}
-use Rattle.round_log.specs.layout_model.declared.lines.Draft.{Draft}
-use Rattle.round_log.specs.Held.{HoldsRound}
-use Rattle.round_log.specs.Rounds.{RoundView}
+use Rattle.run_laws.specs.round_log.pm_model.Parts.{Part}
+use Rattle.run_laws.specs.round_log.layout_model.declared.lines.Draft.{Draft}
+use Rattle.run_laws.specs.round_log.Held.{HoldsRound}
+use Rattle.run_laws.specs.round_log.Rounds.{RoundView}
 use Rattle.world_view_laws.specs.list_laws.Filters.{filter_map-In, In-filter_map}
 use Rattle.run_laws.proofs.Logs.{Contains-In, In-Contains}
 use Rattle.event_laws.specs.declared.held.Held.{Held}

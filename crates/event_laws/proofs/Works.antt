@@ -3,17 +3,17 @@ use Rattle.std.specs.Prelude.{◌≡◌, ◌<◌, ◌≤◌, ◌+◌, ◌^◌, �
 use Rattle.std.specs.List.{remove}
 use Rattle.std.proofs.Common.{arith, ap, ◌∙◌, sym, subst, inl, inr}
 use Rattle.std.proofs.lemmas.Option.{slice_get_within}
-use Rattle.round_log.specs.image_model.LogRule.{HoldsEntry, IsAsAtFirst}
-use Rattle.round_log.specs.oplog_entry.declared.claims.Mark.TheVariants.{Lost, Written}
-use Rattle.round_log.specs.oplog_entry.EntryLines.{entry_words, Holds, IsSingle}
-use Rattle.round_log.specs.oplog_entry.LogLines.{line_at}
-use Rattle.round_log.specs.pm_model.declared.Cell.{Cell}
-use Rattle.round_log.specs.pm_model.declared.Cell.TheVariants.{Single}
-use Rattle.round_log.specs.pm_model.Cells.{cell, is_single}
-use Rattle.round_log.specs.pm_model.Parts.{Part}
-use Rattle.round_log.specs.pm_model.Powers.{is_on, Steps, Supply}
-use Rattle.round_log.specs.Rounds.{ChangesLine, IsClaimed, RoundView}
-use Rattle.round_log.specs.Stores.{HasStored}
+use Rattle.run_laws.specs.round_log.image_model.LogRule.{HoldsEntry, IsAsAtFirst}
+use Rattle.run_laws.specs.round_log.oplog_entry.declared.claims.Mark.TheVariants.{Lost, Written}
+use Rattle.run_laws.specs.round_log.oplog_entry.EntryLines.{entry_words, Holds, IsSingle}
+use Rattle.run_laws.specs.round_log.oplog_entry.LogLines.{line_at}
+use Rattle.run_laws.specs.round_log.pm_model.declared.Cell.{Cell}
+use Rattle.run_laws.specs.round_log.pm_model.declared.Cell.TheVariants.{Single}
+use Rattle.run_laws.specs.round_log.pm_model.Cells.{cell, is_single}
+use Rattle.run_laws.specs.round_log.pm_model.Parts.{Part}
+use Rattle.run_laws.specs.round_log.pm_model.Powers.{is_on, Steps, Supply}
+use Rattle.run_laws.specs.round_log.Rounds.{ChangesLine, IsClaimed, RoundView}
+use Rattle.run_laws.specs.round_log.Stores.{HasStored}
 use Rattle.world_view_laws.specs.live_model.Jobs.{SpellCall}
 use Rattle.world_view_laws.specs.live_model.Standing.{JobOut}
 use Rattle.world_view_laws.specs.posix_types.declared.call.Who.{Who}

@@ -1,8 +1,8 @@
 -- The moments between two events of a run, for any number of callers, and what an event leaves.
 use Rattle.std.specs.Prelude.{◌≡◌, ◌≢◌, ◌⊎◌, ◌≤◌, ◌<◌, ◌+◌, ◌-◌, ◌*◌, ◌^◌, ℕ, true, false, nat_lt, List, [], ◌∷◌, ◌++◌, length, Option, Some, None, slice_get, sum_by, if◌then◌else◌}
-use Rattle.round_log.specs.pm_model.Parts.{Part}
-use Rattle.round_log.specs.pm_model.Powers.{is_on, Supply}
-use Rattle.round_log.specs.Rounds.{RoundView}
+use Rattle.run_laws.specs.round_log.pm_model.Parts.{Part}
+use Rattle.run_laws.specs.round_log.pm_model.Powers.{is_on, Supply}
+use Rattle.run_laws.specs.round_log.Rounds.{RoundView}
 use Rattle.world_view_laws.specs.crash_spec.ScheduleLaws.{may_write}
 use Rattle.world_view_laws.specs.list_laws.Members.{In}
 use Rattle.world_view_laws.specs.posix_types.declared.call.Call.{Call}

@@ -1,15 +1,15 @@
 -- How each event of a run leads from one moment between two events to the next, each law as one statement.
 use Rattle.std.specs.Prelude.{◌≡◌, ◌≢◌, ◌≤◌, ◌<◌, ◌+◌, ◌*◌, ◌^◌, ℕ, true, false, List, [], ◌∷◌, ◌++◌, length, Some, None, Ok, Err, IsSome, slice_get, slice_set, if◌then◌else◌}
 use Rattle.std.specs.List.{remove}
-use Rattle.round_log.specs.layout_model.declared.lines.Draft.{Draft}
-use Rattle.round_log.specs.oplog_entry.declared.claims.Full.{Full}
-use Rattle.round_log.specs.oplog_entry.declared.claims.Mark.TheVariants.{Lost, Written}
-use Rattle.round_log.specs.oplog_entry.EntryLines.{entry_words, IsSingle}
-use Rattle.round_log.specs.oplog_entry.LogLines.{line_at}
-use Rattle.round_log.specs.pm_model.Parts.{Part}
-use Rattle.round_log.specs.pm_model.Powers.{is_on, Steps, Supply}
-use Rattle.round_log.specs.Rounds.{ChangesLine, IsClaimed, RoundView}
-use Rattle.round_log.specs.Stores.{HasStored, Persists}
+use Rattle.run_laws.specs.round_log.layout_model.declared.lines.Draft.{Draft}
+use Rattle.run_laws.specs.round_log.oplog_entry.declared.claims.Full.{Full}
+use Rattle.run_laws.specs.round_log.oplog_entry.declared.claims.Mark.TheVariants.{Lost, Written}
+use Rattle.run_laws.specs.round_log.oplog_entry.EntryLines.{entry_words, IsSingle}
+use Rattle.run_laws.specs.round_log.oplog_entry.LogLines.{line_at}
+use Rattle.run_laws.specs.round_log.pm_model.Parts.{Part}
+use Rattle.run_laws.specs.round_log.pm_model.Powers.{is_on, Steps, Supply}
+use Rattle.run_laws.specs.round_log.Rounds.{ChangesLine, IsClaimed, RoundView}
+use Rattle.run_laws.specs.round_log.Stores.{HasStored, Persists}
 use Rattle.world_view_laws.specs.in_flight.Costs.{most_of}
 use Rattle.world_view_laws.specs.live_model.Standing.{JobOut}
 use Rattle.world_view_laws.specs.posix_types.declared.call.Mode.{Mode}

@@ -1,13 +1,13 @@
 -- The logged calls that are out of a World between two events, each as far as it came, and the log of the round beside it.
 use Rattle.std.specs.Prelude.{◌≡◌, ◌+◌, ℕ, true, false, List, [], length, Option, Some, None, slice_get}
 use Rattle.std.specs.List.{filter_map}
-use Rattle.round_log.specs.pm_model.Parts.{Part}
-use Rattle.round_log.specs.image_model.LogRule.{HoldsEntry}
-use Rattle.round_log.specs.oplog_entry.EntryLines.{entry_words}
-use Rattle.round_log.specs.oplog_entry.LogLines.{line_at}
-use Rattle.round_log.specs.Held.{HoldsRound}
-use Rattle.round_log.specs.Rounds.{IsRound, RoundView}
-use Rattle.round_log.specs.Stores.{HasStored}
+use Rattle.run_laws.specs.round_log.pm_model.Parts.{Part}
+use Rattle.run_laws.specs.round_log.image_model.LogRule.{HoldsEntry}
+use Rattle.run_laws.specs.round_log.oplog_entry.EntryLines.{entry_words}
+use Rattle.run_laws.specs.round_log.oplog_entry.LogLines.{line_at}
+use Rattle.run_laws.specs.round_log.Held.{HoldsRound}
+use Rattle.run_laws.specs.round_log.Rounds.{IsRound, RoundView}
+use Rattle.run_laws.specs.round_log.Stores.{HasStored}
 use Rattle.world_view_laws.specs.list_laws.Members.{In}
 use Rattle.world_view_laws.specs.live_model.Standing.{JobOut}
 use Rattle.world_view_laws.specs.write_jobs.Jobs.{FilledView, JobView}

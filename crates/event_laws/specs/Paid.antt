@@ -1,7 +1,7 @@
 -- What the events of a run take of the power.
 use Rattle.std.specs.Prelude.{◌≡◌, ◌≤◌, ◌+◌, ◌*◌, ◌^◌, ◌||◌, ℕ, Bool, false, List, length, map, Some, sum_by}
 use Rattle.std.specs.List.{list_any}
-use Rattle.round_log.specs.pm_model.Powers.{Steps, Supply}
+use Rattle.run_laws.specs.round_log.pm_model.Powers.{Steps, Supply}
 use Rattle.world_view_laws.specs.posix_types.declared.item.Item.{Item}
 use Rattle.world_view_laws.specs.posix_spec.Afforded.{moves_data, next_calls}
 use Rattle.world_view_laws.specs.Views.{WorldView}

@@ -1,6 +1,7 @@
 -- Sums over the views of a table, by places.
-use Rattle.std.proofs.Common.{◌≡◌, ◌≢◌, ℕ, zero, suc, ◌+◌, ◌≤◌, List, [], ◌∷◌, ◌++◌, set, sym, refl, ap, arith}
-use Rattle.std.specs.Prelude.{sum_by}
+use Rattle.std.proofs.Common.{◌≡◌, ◌≢◌, ℕ, zero, suc, ◌+◌, ◌≤◌, List, [], ◌∷◌, ◌++◌, set, sym, refl, ap, arith, inl, inr}
+use Rattle.std.specs.Prelude.{slice_get, slice_set, sum_by, Some}
+use Rattle.std.proofs.lemmas.Bool.{cases_lt}
 use Rattle.std.proofs.lemmas.List.Sums.{sum_by-cons, sum_by-append}
 use mathlib.Core.Option.{some, some-injective, some-ne-none}
 use lib.ListN.{get_elem?}
@@ -46,3 +47,26 @@ module _ {A : Type 0} where
   -- one view is changed, and a new one comes behind
   pub sum_split : (f : A → ℕ) (l : List A) (i : ℕ) (v w u : A) → get_elem? l i ≡ some v → sum_by f (set l i w ++ u ∷ []) + f v ≡ sum_by f l + f w + f u
   sum_split f l i v w u at = omega (arith, sum_by-append f (set l i w) (u ∷ []), sum_by-cons f u [], sum_set f l i v w at)
+
+-- ---- by places that a list may lack
+
+module _ {A : Type 0} where
+  -- one term is changed
+  pub sum_at_place : (f : A → ℕ) (l : List A) (i : ℕ) (v w : A) → slice_get l i ≡ Some v → sum_by f (slice_set l i w) + f v ≡ sum_by f l + f w
+  sum_at_place f [] i v w at = cc
+  sum_at_place f (x ∷ xs) zero v w at = let same : x ≡ v = cc in omega (arith, sum_by-cons f x xs, sum_by-cons f w xs, ap f same)
+  sum_at_place f (x ∷ xs) (suc i) v w at = omega (arith, sum_by-cons f x xs, sum_by-cons f x (slice_set xs i w), sum_at_place f xs i v w at)
+
+  -- a term is within the sum
+  pub term_within : (f : A → ℕ) (l : List A) (i : ℕ) (v : A) → slice_get l i ≡ Some v → f v ≤ sum_by f l
+  term_within f [] i v at = cc
+  term_within f (x ∷ xs) zero v at = let same : x ≡ v = cc in omega (arith, sum_by-cons f x xs, ap f same)
+  term_within f (x ∷ xs) (suc i) v at = omega (arith, sum_by-cons f x xs, term_within f xs i v at)
+
+  -- and a sum of something has a term of something
+  pub some_of_sum : (f : A → ℕ) (l : List A) → 1 ≤ sum_by f l → (i : ℕ) × (v : A) × (slice_get l i ≡ Some v) × (1 ≤ f v)
+  some_of_sum f [] much = absurd (omega (arith, much))
+  some_of_sum f (x ∷ xs) much = elim (cases_lt 0 (f x)) [
+    | inl one ↦ (0, x, refl, omega (arith, one))
+    | inr none ↦ let rest = some_of_sum f xs (omega (arith, much, none, sum_by-cons f x xs)) in (suc rest.0, rest.1, rest.2, rest.3)
+  ]

@@ -6,7 +6,7 @@ use mathlib.Core.Option.{none, some}
 use mir.Val.{bool_byte}
 use mathlib.Core.Option as maybe
 use Rattle.atomic_table.specs.Table.{Allows, gives, homes_after, Joins, keeps, Me, opening, Splits, State, step, takes}
-use Rattle.image_model.specs.pm_model.Parts.{Part}
+use Rattle.oplog_entry.specs.image_model.pm_model.Parts.{Part}
 use Rattle.layout_model.specs.declared.lines.Draft.{Draft}
 use Rattle.oplog_tail.specs.declared.views.Claim.{Claim}
 use Rattle.oplog_tail.specs.declared.views.Knows.{Knows}

@@ -9,12 +9,12 @@ use Rattle.std.proofs.lemmas.List.Elements.{Contains-append_left, Contains-appen
 use Rattle.std.proofs.lemmas.List.Sums.{get_or-le-sum_by, sum_by-cons}
 use mathlib.Core.Option.{some}
 use lib.ListN.{get_elem?}
-use Rattle.image_model.specs.pm_model.declared.Cell.{Cell}
-use Rattle.image_model.specs.pm_model.Cells.{cell}
-use Rattle.image_model.specs.pm_model.CellLaws.{single-newest}
-use Rattle.image_model.specs.pm_model.Parts.{Part}
+use Rattle.oplog_entry.specs.image_model.pm_model.declared.Cell.{Cell}
+use Rattle.oplog_entry.specs.image_model.pm_model.Cells.{cell}
+use Rattle.oplog_entry.specs.image_model.pm_model.CellLaws.{single-newest}
+use Rattle.oplog_entry.specs.image_model.pm_model.Parts.{Part}
 use Rattle.layout_model.specs.declared.lines.Draft.{Draft}
-use Rattle.image_model.specs.LogRule.{cells_of_line, HoldsClaims, HoldsEntry, IsAsAtFirst}
+use Rattle.oplog_entry.specs.image_model.LogRule.{cells_of_line, HoldsClaims, HoldsEntry, IsAsAtFirst}
 use Rattle.oplog_tail.specs.declared.views.Claim.{Claim}
 use Rattle.oplog_entry.specs.declared.claims.Full.{Full}
 use Rattle.oplog_tail.specs.declared.views.Knows.{Knows}
@@ -24,11 +24,10 @@ use Rattle.oplog_tail.specs.declared.views.Slot.TheVariants.{Filled, Fresh, Out}
 use Rattle.oplog_tail.specs.declared.views.Start.{Start}
 use Rattle.oplog_entry.specs.EntryLines.{Holds, IsSingle}
 use Rattle.oplog_tail.specs.Views.{claims_with, held_with, times, number_of}
-use Rattle.oplog_entry.specs.LogLines.{line_at}
+use Rattle.oplog_entry.specs.LogLines.{line_at, cells_of}
 use Rattle.oplog_tail.specs.Seats.{pairs_of, SeatView}
 use Rattle.oplog_tail.specs.Logs.{capacity, LogView}
 use Rattle.oplog_tail.specs.Closing.{AllWritten, AreNumbered, claims_of_all, first_words, full_number, HasLine, LeavesLines, line_in, seat_with, AreFirst, claim_with}
-use Rattle.oplog_entry.specs.LogLines.{cells_of}
 use Rattle.oplog_tail.proofs.Ends.{IsEnd}
 use Rattle.oplog_tail.proofs.Gathering.{full_numbers}
 use Rattle.oplog_tail.proofs.Slots.{get_of_at}

@@ -1,6 +1,6 @@
 -- What an append answers, and what it leaves of its seat.
 use Rattle.std.specs.Prelude.{◌≡◌, ◌≤◌, ◌<◌, ℕ, true, false, None}
-use Rattle.image_model.specs.pm_model.Powers.{is_on, Supply}
+use Rattle.oplog_entry.specs.image_model.pm_model.Powers.{is_on, Supply}
 use Rattle.layout_model.specs.declared.lines.Draft.{Draft}
 use Rattle.oplog_tail.specs.declared.appends.Appended.{Appended}
 use Rattle.oplog_tail.specs.declared.appends.Appended.TheVariants.{Done, PowerLost}

@@ -1,9 +1,9 @@
 -- What the lines of a log are once it is closed, by the claims of its seats.
 use Rattle.std.specs.Prelude.{◌≡◌, ◌≤◌, ◌<◌, ℕ, ◌+◌, Contains, flat_map, List, [], ◌∷◌, length, map, sum_by, Option, Some, None}
-use Rattle.image_model.specs.pm_model.declared.Cell.{Cell}
-use Rattle.image_model.specs.pm_model.Parts.{Part}
-use Rattle.image_model.specs.pm_model.Words.{Words}
-use Rattle.image_model.specs.LogRule.{words_of_line}
+use Rattle.oplog_entry.specs.image_model.pm_model.declared.Cell.{Cell}
+use Rattle.oplog_entry.specs.image_model.pm_model.Parts.{Part}
+use Rattle.oplog_entry.specs.image_model.pm_model.Words.{Words}
+use Rattle.oplog_entry.specs.image_model.LogRule.{words_of_line}
 use Rattle.oplog_tail.specs.declared.views.Claim.{Claim}
 use Rattle.oplog_entry.specs.declared.claims.Full.{Full}
 use Rattle.oplog_entry.specs.declared.claims.Mark.TheVariants.{Written}

@@ -5,7 +5,7 @@ pub mod Seats
 pub mod Logs
 pub mod Answers
 pub mod Closing
-pub use Rattle.image_model.specs as image_model
+pub use Rattle.oplog_entry.specs.image_model as image_model
 pub use Rattle.layout_model.specs as layout_model
 pub use Rattle.pm_lines.specs.pm_model as pm_model
 pub use Rattle.oplog_entry.specs as oplog_entry

@@ -1,7 +1,7 @@
 -- A log as contracts see it, and what is always true of one.
 use Rattle.std.specs.Prelude.{◌≡◌, ◌≤◌, ◌<◌, ◌^◌, ℕ, List, [], length, None}
 use Rattle.atomic_table.specs.Seated.{TableId}
-use Rattle.image_model.specs.pm_model.Parts.{Part}
+use Rattle.oplog_entry.specs.image_model.pm_model.Parts.{Part}
 use Rattle.oplog_tail.specs.declared.views.Start.{Start}
 use Rattle.oplog_tail.specs.Seats.{SeatView}
 

@@ -5,7 +5,7 @@ use Rattle.std.specs.Prelude.{◌≡◌, ◌≤◌, ◌<◌, ℕ, ◌+◌, ◌-�
 use mathlib.Core.Option.{some, none}
 use mathlib.Core.Option as maybe
 use lib.ListN.{get_elem?}
-use Rattle.image_model.specs.pm_model.Parts.{Part}
+use Rattle.oplog_entry.specs.image_model.pm_model.Parts.{Part}
 use Rattle.atomic_table.specs.Table.{State}
 use Rattle.oplog_tail.specs.declared.views.Claim.{Claim}
 use Rattle.oplog_tail.specs.declared.views.Knows.{Knows}

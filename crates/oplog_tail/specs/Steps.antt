@@ -1,6 +1,6 @@
 -- What each step of a seat tells it.
 use Rattle.std.specs.Prelude.{◌≡◌, ◌≤◌, ◌<◌, ◌==◌, ℕ, if◌then◌else◌, Contains, List, [], ◌∷◌}
-use Rattle.image_model.specs.pm_model.Parts.{Part}
+use Rattle.oplog_entry.specs.image_model.pm_model.Parts.{Part}
 use Rattle.atomic_table.specs.Table.{Me, rest, Step}
 use Rattle.oplog_tail.specs.declared.views.Claim.{Claim}
 use Rattle.oplog_tail.specs.declared.views.Knows.{Knows}

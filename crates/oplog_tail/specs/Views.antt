@@ -1,7 +1,7 @@
 -- What seats know of the log, counted.
 use Rattle.std.specs.Prelude.{ℕ, ◌+◌, ◌==◌, Bool, true, false, if◌then◌else◌, List, [], ◌∷◌, ◌++◌, length, count_by, Option, Some, None}
 use Rattle.list_laws.specs.Numbers.{count_with}
-use Rattle.image_model.specs.pm_model.Parts.{Part}
+use Rattle.oplog_entry.specs.image_model.pm_model.Parts.{Part}
 use Rattle.layout_model.specs.declared.lines.Draft.{Draft}
 use Rattle.oplog_tail.specs.declared.views.Claim.{Claim}
 use Rattle.oplog_tail.specs.declared.views.Knows.{Knows}

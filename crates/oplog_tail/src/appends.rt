@@ -2,8 +2,8 @@
 ghost use Rattle.std.specs.Prelude.{◌≡◌, ◌+◌, ◌≤◌, ◌<◌, ◌^◌, [], ◌∷◌, ℕ, if◌then◌else◌};
 ghost use mathlib.Core.Option.{none};
 ghost use Rattle.atomic_table.specs.Table.{step};
-ghost use Rattle.image_model.specs.pm_model.Parts.{Part};
-ghost use Rattle.image_model.specs.pm_model.Powers.{is_on, Steps};
+ghost use Rattle.oplog_entry.specs.image_model.pm_model.Parts.{Part};
+ghost use Rattle.oplog_entry.specs.image_model.pm_model.Powers.{is_on, Steps};
 ghost use Rattle.oplog_tail.specs.Answers.{Answers};
 ghost use Rattle.oplog_entry.specs.EntryLines.{IsSingle};
 ghost use Rattle.oplog_tail.specs.Logs.{capacity, IsSeatOf};

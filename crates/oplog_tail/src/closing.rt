@@ -2,7 +2,7 @@
 ghost use Rattle.std.specs.Prelude.{◌≡◌, ◌≤◌, ◌<◌, ℕ, List, [], All, length, map, vec_capacity};
 ghost use Rattle.std.specs.List.{flat_map};
 ghost use Rattle.std.specs.Mem.Slots.{slots_items, slots_len, IsFull};
-ghost use Rattle.image_model.specs.LogRule.{HoldsClaims};
+ghost use Rattle.oplog_entry.specs.image_model.LogRule.{HoldsClaims};
 ghost use Rattle.oplog_tail.specs.Closing.{AllWritten, AreFirst, AreNumbered, claims_of_all, first_words, full_number, HasLine, LeavesLines, line_in};
 ghost use Rattle.oplog_entry.specs.LogLines.{cells_of};
 ghost use Rattle.oplog_tail.specs.Logs.{IsSeatOf, LogView};

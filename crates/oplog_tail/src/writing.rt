@@ -1,6 +1,6 @@
 //! How an entry is written into a line.
 ghost use Rattle.std.specs.Prelude.{◌≡◌, ◌<◌, ◌^◌, true, if◌then◌else◌};
-ghost use Rattle.image_model.specs.pm_model.Powers.{is_on, Steps};
+ghost use Rattle.oplog_entry.specs.image_model.pm_model.Powers.{is_on, Steps};
 ghost use Rattle.oplog_entry.specs.EntryLines.{Holds, IsSingle};
 
 use image_layout::u64_at;

@@ -13,7 +13,7 @@ use Rattle.call_laws.proofs.world_view_laws_proofs.open_files_proofs.Lookups.{sa
 use Rattle.call_laws.specs.Calls.{AtCall}
 use Rattle.call_laws.specs.in_flight.live_model.data_route.declared.writes.WritePlan.{WritePlan}
 use Rattle.call_laws.specs.in_flight.live_model.data_route.Writes.{cleans, in_place_by, in_place_end, plan_of, staged_by}
-use Rattle.in_place.specs.zero_fill.file_overlay.Runs.{staged_at}
+use Rattle.write_begin.specs.in_place.file_overlay.Runs.{staged_at}
 use Rattle.call_laws.specs.in_flight.live_model.open_files.Numbered.{described_as}
 use Rattle.call_laws.specs.in_flight.world_model.Stands.{number}
 use Rattle.call_laws.specs.write_begin.Begins.{LacksFor}
@@ -23,7 +23,7 @@ use Rattle.call_laws.specs.write_begin.image_model.Volume.{extents}
 use Rattle.call_laws.specs.write_begin.k_split_model.MapChangesChanges.{holes}
 use Rattle.call_laws.specs.write_begin.write_plan.AsksLaws.{call_of, start_of}
 use Rattle.call_laws.specs.write_begin.write_plan.Numbers.{OpenHaveLines, RoomIsKept, StandsAsKept}
-use Rattle.in_place.specs.Holes.{absent_count, LacksFree}
+use Rattle.write_begin.specs.in_place.Holes.{absent_count, LacksFree}
 use Rattle.write_begin.proofs.BeginsAsked.{puts_of}
 use Rattle.write_begin.proofs.Begun.{need_fits}
 use Rattle.write_begin.proofs.write_plan_proofs.Calls.{handle_open}

@@ -1,10 +1,11 @@
 -- Each call of a World within a round is an act of its caller.
-use Rattle.std.specs.Prelude.{◌≡◌, ◌≢◌, ◌+◌, ◌-◌, ◌*◌, ◌^◌, not, ℕ, Bool, true, false, cond, List, [], ◌∷◌, ◌++◌, Option, Some, None, refl}
-use Rattle.std.proofs.Common.{arith, ap, ◌∙◌, sym, subst, inl, inr}
+use Rattle.std.specs.Prelude.{◌≡◌, ◌≢◌, ◌+◌, ◌-◌, ◌*◌, ◌^◌, not, ℕ, Bool, true, false, cond, List, [], ◌∷◌, ◌++◌, length, Option, Some, None, refl}
+use Rattle.std.proofs.Common.{arith, ap, ◌∙◌, sym, subst, inl, inr, length-append}
 use Rattle.std.proofs.lemmas.Bool.{cases_Bool}
 use Rattle.eof_laws.specs.pm_model.Powers.{Steps, Supply}
-use Rattle.eof_laws.specs.list_laws.Filters.{filter-more, filter-same}
+use Rattle.eof_laws.specs.list_laws.Filters.{filter-In, filter-more, filter-same, In-filter}
 use Rattle.eof_laws.specs.list_laws.Members.{In}
+use Rattle.eof_laws.specs.layout_model.declared.lines.Draft.{Draft}
 use Rattle.eof_laws.specs.posix_types.declared.call.Who.{Who}
 use Rattle.world_view_laws.specs.in_flight.Histories.{set_up_stays}
 use Rattle.world_view_laws.specs.live_model.Jobs.{without}
@@ -15,10 +16,10 @@ use Rattle.world_view_laws.proofs.in_flight_proofs.CountsJobs.{same_who-refl}
 use Rattle.world_view_laws.specs.posix_tables.Open.{same_who}
 use Rattle.world_view_laws.specs.write_end.Blocks.{AreBlocksHome}
 use Rattle.world_view_laws.specs.declared.views.over.Over.{Over}
-use Rattle.world_view_laws.specs.Acts.{IsAct, jobs_of, KeepsHomes}
+use Rattle.world_view_laws.specs.Acts.{HomesOf, IsAct, jobs_of, KeepsHomes, KeepsOwn, StaysOf}
 use Rattle.world_view_laws.specs.Begins.{item_of, OthersStay}
 use Rattle.world_view_laws.specs.Jobs.{over_by}
-use Rattle.world_view_laws.specs.Views.{Disk, WorldView}
+use Rattle.world_view_laws.specs.Views.{Disk, HasNone, WorldView}
 use Rattle.round_laws.specs.ActsLaws.{FinishActs, GiveUpActs, JobActs, LoseActs, LostCallActs, LostEndActs, LostFinishActs, NothingActs, ReturnsActs, RoundEndActs}
 
 -- ---- steps
@@ -66,13 +67,42 @@ others_same who w v start history pending disk =
       λ q job apart is. record { there = is.there; who = is.who; draft = is.draft; blocks = is.blocks; words = is.words; lent = is.lent },
     )
 
+-- ---- the jobs of the caller itself
+
+-- it had none
+none_stays : (who : Who) (old new : WorldView) → HasNone old who → KeepsOwn who old new
+none_stays who old new none claims same =
+    ((λ q job own is. absurd (none q is.there own), λ q job own is. absurd (none q is.there own)), λ q there own home. absurd (none q there own))
+
+-- it has none any more
+gone_stays : (p : JobOut) (old new : WorldView) → In p old.pending → HasNone new p.who → KeepsOwn p.who old new
+gone_stays p old new there none claims same =
+    let own = In-filter (λ (q : JobOut). same_who q.who p.who) old.pending p there (same_who-refl p.who) in
+    let kept : In p (jobs_of p.who new.pending) = subst (In p) (sym same) own in
+    absurd (none p (filter-In (λ (q : JobOut). same_who q.who p.who) new.pending p kept).0 refl)
+
+-- a list with one more is another
+claimed_more : (claims : List (ℕ × Draft)) (pair : ℕ × Draft) → claims ≡ claims ++ pair ∷ [] → ⊥
+claimed_more claims pair same = omega (arith, ap length same, length-append claims (pair ∷ []))
+
+-- nothing that is asked of a job changed
+own_same : (who : Who) (w v : WorldView) → v.start ≡ w.start → v.history ≡ w.history → v.pending ≡ w.pending → v.disk ≡ w.disk → KeepsOwn who w v
+own_same who w v start history pending disk claims same =
+    subst (λ (x : WorldView). StaysOf who w x × HomesOf who w x) (λ i. record v { start = sym start i; history = sym history i; pending = sym pending i; disk = sym disk i }) (
+      (
+        λ q job own is. record { there = is.there; who = is.who; draft = is.draft; blocks = is.blocks; words = is.words; lent = is.lent },
+        λ q job own is. record { there = is.there; who = is.who; draft = is.draft; blocks = is.blocks; words = is.words; lent = is.lent },
+      ),
+      λ q there own home. home,
+    )
+
 pub by_view : (who : Who) (old v new : WorldView) (before after : Supply) → new ≡ v → IsAct who old v before after → IsAct who old new before after
 by_view who old v new before after same act = subst (λ (w : WorldView). IsAct who old w before after) (sym same) act
 
 -- ---- the answers of `begin`
 
 pub returns_act : ReturnsActs
-returns_act who old new before after steps is =
+returns_act who old new before after none steps is =
     by_view who old _ new before after is.new_is (record {
       start = refl;
       scripts = refl;
@@ -81,6 +111,7 @@ returns_act who old new before after steps is =
       pair = inl refl;
       jobs = refl;
       own = inl refl;
+      own_stays = none_stays who old _ none;
       given_up = inl refl;
       still = λ lost. no_both old.lost lost is.begins.awake _;
       homes = λ lost. no_both old.lost lost is.begins.awake _;
@@ -103,6 +134,7 @@ job_acts who old new before after job none steps is =
       pair = inl refl;
       jobs = pushed_own who old.pending is.pending is.who_is;
       own = inr (inr (record { job = is.pending; none = none; one = jobs_last who old.pending is.pending none is.who_is; apart = is.apart }));
+      own_stays = none_stays who old _ none;
       given_up = inl refl;
       still = λ lost. no_both old.lost lost is.begins.awake _;
       homes = λ lost. no_both old.lost lost is.begins.awake _;
@@ -116,7 +148,7 @@ job_acts who old new before after job none steps is =
     })
 
 pub round_end_acts : RoundEndActs
-round_end_acts who old new before after need left steps is =
+round_end_acts who old new before after need left none steps is =
     by_view who old _ new before after is.new_is (record {
       start = refl;
       scripts = refl;
@@ -125,6 +157,7 @@ round_end_acts who old new before after need left steps is =
       pair = inl refl;
       jobs = refl;
       own = inl refl;
+      own_stays = none_stays who old _ none;
       given_up = inl refl;
       still = λ lost. no_both old.lost lost is.begins.awake _;
       homes = λ lost. no_both old.lost lost is.begins.awake _;
@@ -138,7 +171,7 @@ round_end_acts who old new before after need left steps is =
     })
 
 pub lost_call_acts : LostCallActs
-lost_call_acts who old new before after steps is =
+lost_call_acts who old new before after none steps is =
     by_view who old _ new before after is.new_is (record {
       start = refl;
       scripts = refl;
@@ -147,6 +180,7 @@ lost_call_acts who old new before after steps is =
       pair = inl refl;
       jobs = refl;
       own = inl refl;
+      own_stays = none_stays who old _ none;
       given_up = inl refl;
       still = λ lost. no_both old.lost lost is.awake _;
       homes = λ lost. no_both old.lost lost is.awake _;
@@ -160,7 +194,7 @@ lost_call_acts who old new before after steps is =
     })
 
 pub lost_end_acts : LostEndActs
-lost_end_acts who old new power same =
+lost_end_acts who old new power none same =
     by_view who old _ new power power same (record {
       start = refl;
       scripts = refl;
@@ -169,6 +203,7 @@ lost_end_acts who old new power same =
       pair = inl refl;
       jobs = refl;
       own = inl refl;
+      own_stays = none_stays who old _ none;
       given_up = inl refl;
       still = λ lost. (refl, refl);
       homes = same_homes who old (record old { acts = old.acts + 1; lost = true }) refl;
@@ -190,6 +225,7 @@ nothing_acts who w power = record {
   pair = inl refl;
   jobs = refl;
   own = inl refl;
+  own_stays = λ claims same. ((λ q job own is. is, λ q job own is. is), λ q there own home. home);
   given_up = inl refl;
   still = λ lost. (refl, refl);
   homes = same_homes who w w refl;
@@ -215,9 +251,10 @@ finish_acts slot p job old new before after steps out is =
       scripts = refl;
       lap = record { geometry = refl; base = refl; first = refl; lines_out = refl; settled = refl };
       item = inr (p.call, is.next, refl);
-      pair = inr (slot, p, out.there, refl, refl);
+      pair = inr (slot, p, out.there, refl, refl, inl (λ q at. (left_of p.who old.pending q at).1));
       jobs = without_twice p.who old.pending;
       own = inr (inl (λ q at. (left_of p.who old.pending q at).1));
+      own_stays = gone_stays p old _ out.there (λ q at. (left_of p.who old.pending q at).1);
       given_up = inl refl;
       still = λ lost. no_both old.lost lost is.awake _;
       homes = λ lost. no_both old.lost lost is.awake _;
@@ -237,9 +274,10 @@ lost_finish_acts slot p job old new before after steps spared out is =
       scripts = refl;
       lap = record { geometry = refl; base = refl; first = refl; lines_out = refl; settled = refl };
       item = inl refl;
-      pair = inr (slot, p, out.there, refl, refl);
+      pair = inr (slot, p, out.there, refl, refl, inr (refl, refl, is.back));
       jobs = refl;
       own = inl refl;
+      own_stays = λ claims same. absurd (claimed_more old.claims (slot, p.draft) (sym claims));
       given_up = inl refl;
       still = λ lost. (refl, refl);
       homes = λ lost q at other home. subst (λ (w : WorldView). AreBlocksHome q.blocks w.disk.cells) is.new_is (is.homes q at other home);
@@ -265,6 +303,7 @@ give_up_acts full p job old new power out is =
       pair = inl refl;
       jobs = without_twice p.who old.pending;
       own = inr (inl (λ q at. (left_of p.who old.pending q at).1));
+      own_stays = gone_stays p old _ out.there (λ q at. (left_of p.who old.pending q at).1);
       given_up = inr (refl, λ q at. (left_of p.who old.pending q at).1, λ none. (let never : Some (over_by old.over full) ≡ None = none in cc));
       still = λ lost. (refl, refl);
       homes = λ lost q at other home. subst (λ (w : WorldView). AreBlocksHome q.blocks w.disk.cells) is.new_is (is.homes q at other home);
@@ -286,6 +325,7 @@ lose_acts who w power = record {
   pair = inl refl;
   jobs = refl;
   own = inl refl;
+  own_stays = own_same who w (record w { lost = true }) refl refl refl refl;
   given_up = inl refl;
   still = λ lost. (refl, refl);
   homes = same_homes who w (record w { lost = true }) refl;

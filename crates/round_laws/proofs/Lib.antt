@@ -1,4 +1,4 @@
-mod Acting
+pub mod Acting
 pub mod EndsLines
 pub mod Counts
 pub mod Ready

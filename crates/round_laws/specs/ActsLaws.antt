@@ -13,21 +13,24 @@ use Rattle.world_view_laws.specs.Views.{HasNone, WorldView}
 -- ---- what `begin` answers, but that it wants memory
 
 abbrev pub ReturnsActs : Type 0
-ReturnsActs = (who : Who) (old new : WorldView) (before after : Supply) → Steps (2 ^ 26) before after → Returns who old new before after → IsAct who old new before after
+ReturnsActs =
+    (who : Who) (old new : WorldView) (before after : Supply) → HasNone old who → Steps (2 ^ 26) before after → Returns who old new before after → IsAct who old new before after
 
 abbrev pub JobActs : Type 0
 JobActs =
     (who : Who) (old new : WorldView) (before after : Supply) (job : JobView) → HasNone old who → Steps (2 ^ 26) before after → BeginsJob who old new after job → IsAct who old new before after
 
 abbrev pub RoundEndActs : Type 0
-RoundEndActs = (who : Who) (old new : WorldView) (before after : Supply) (need left : ℕ) → Steps (2 ^ 26) before after → EndsRound who old new after need left → IsAct who old new before after
+RoundEndActs =
+    (who : Who) (old new : WorldView) (before after : Supply) (need left : ℕ) → HasNone old who → Steps (2 ^ 26) before after → EndsRound who old new after need left → IsAct who old new before after
 
 abbrev pub LostCallActs : Type 0
-LostCallActs = (who : Who) (old new : WorldView) (before after : Supply) → Steps (2 ^ 26) before after → LosesCall who old new after → IsAct who old new before after
+LostCallActs =
+    (who : Who) (old new : WorldView) (before after : Supply) → HasNone old who → Steps (2 ^ 26) before after → LosesCall who old new after → IsAct who old new before after
 
 -- the power was found off behind the end of the script
 abbrev pub LostEndActs : Type 0
-LostEndActs = (who : Who) (old new : WorldView) (power : Supply) → new ≡ record old { acts = old.acts + 1; lost = true } → IsAct who old new power power
+LostEndActs = (who : Who) (old new : WorldView) (power : Supply) → HasNone old who → new ≡ record old { acts = old.acts + 1; lost = true } → IsAct who old new power power
 
 -- nothing was done: it waits, its script has ended, the round was over, or the power was lost before
 abbrev pub NothingActs : Type 0

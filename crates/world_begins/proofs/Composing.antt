@@ -15,7 +15,7 @@ use Rattle.world_parts.specs.in_flight.Costs.{most_of_call}
 use Rattle.world_parts.specs.posix_spec.Afforded.{moves_data}
 use Rattle.world_parts.specs.posix_spec.Put.{Put, put_by}
 use Rattle.world_parts.specs.posix_spec.State.{State}
-use Rattle.world_parts.proofs.world_view_laws_proofs.Holes.{no_holes, unput_holes}
+use Rattle.world_parts.proofs.world_view_laws_proofs.Holes.{no_holes, unput_holes, unput_in_place}
 use Rattle.call_laws.specs.write_begin.write_plan.AsksLaws.{call_of}
 use Rattle.world_parts.specs.world_view_laws.Begins.{Begins, IsNeed, IsOfOpenFile, LosesCall, OthersStay, Publishes, Returns, WantsMemory}
 use Rattle.world_parts.specs.world_view_laws.file_calls.declared.names.outcomes.NoMemory.{NoMemory}
@@ -89,6 +89,9 @@ module _ (w : WorldView) (d : Disk) (who : Who) (call : Call) (begins : Begins w
   same_call : (c : Call) → Begins middle who c → c ≡ call
   same_call c its = ap (λ (o : Option Call). unwrap_or o c) (sym its.next ∙ begins.next)
 
+  puts_none : (c : Call) → Begins middle who c → put_by (state_of w) who c ≡ None
+  puts_none c its = plain_unput (state_of w) who c (subst PutsNothing (sym (same_call c its)) plain)
+
   module _ (new : WorldView) (stay : OthersStay w middle who) where
     stay_back : OthersStay middle new who → OthersStay w new who
     stay_back rest = (λ q job apart is. rest.0 q job apart (stay.0 q job apart is), λ q job apart is. rest.1 q job apart (stay.1 q job apart is))
@@ -100,10 +103,11 @@ module _ (w : WorldView) (d : Disk) (who : Who) (call : Call) (begins : Begins w
       unlogged = is.unlogged;
       new_is = is.new_is;
       enough = room_on w d w.disk who is.call is.enough;
-      holes = no_holes w who is.call (unput_holes w who is.call (plain_unput (state_of w) who is.call (subst PutsNothing (sym (same_call is.call is.begins)) plain)));
+      holes = no_holes w who is.call (unput_holes w who is.call (puts_none is.call is.begins));
       published = published_from w middle new who is.call tables refl is.published;
       of_file = of_file_from w d who is.call tables is.of_file;
       staging = λ mode. is.staging mode ∙ staging;
+      in_place = λ mode. unput_in_place w who is.call new.disk (puts_none is.call is.begins);
       stay = stay_back is.stay;
       on = is.on;
       spent = elim is.spent [ inl same ↦ inl same | inr step ↦ inr (steps step) ];

@@ -15,10 +15,10 @@ use Rattle.in_flight.specs.posix_spec.Afforded.{moves_data}
 use Rattle.in_flight.specs.posix_spec.Put.{Put, put_by}
 use Rattle.in_flight.specs.posix_spec.State.{State}
 use Rattle.in_flight.specs.world_image_laws.Settings.{setting_run}
-use Rattle.world_view_laws.specs.Begins.{HasFilled, LacksHoles}
-use Rattle.write_plan.specs.Plans.{placed_at, size_at, staged_run}
+use Rattle.world_view_laws.specs.Begins.{HasFilled, IsInPlace, LacksHoles}
+use Rattle.write_end.specs.in_place.write_plan.Plans.{placed_at, size_at, staged_run}
 use Rattle.world_view_laws.specs.Holes.{absent_in, file_of, holes_at, holes_of}
-use Rattle.world_view_laws.specs.Views.{state_of, WorldView}
+use Rattle.world_view_laws.specs.Views.{Disk, state_of, WorldView}
 
 -- ---- the plan of strict mode
 
@@ -104,6 +104,13 @@ unplaced_holes w who call none = none_at w (file_of w who call) (placed_at (stat
 -- or puts nothing.
 pub unput_holes : (w : WorldView) (who : Who) (call : Call) → put_by (state_of w) who call ≡ None → holes_of w who call ≡ 0
 unput_holes w who call none = unplaced_holes w who call (ap (placed_at (state_of w)) none)
+
+-- ONE THAT PUTS NOTHING writes nothing in place.
+pub unput_in_place : (w : WorldView) (who : Who) (call : Call) (disk : Disk) → put_by (state_of w) who call ≡ None
+    → (range : ℕ × ℕ) → placed_at (state_of w) (put_by (state_of w) who call) ≡ Some range → IsInPlace w who call disk
+unput_in_place w who call disk none range placed =
+    let never : None ≡ Some range = sym (ap (placed_at (state_of w)) none) ∙ placed in
+    cc
 
 -- A CALL WITHOUT HOLES lacks no blocks for them,
 pub no_holes : (w : WorldView) (who : Who) (call : Call) → holes_of w who call ≡ 0 → (need left : ℕ) → LacksHoles w who call need left → ⊥

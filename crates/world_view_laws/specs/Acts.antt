@@ -8,9 +8,10 @@ use Rattle.in_flight.specs.posix_tables.Open.{same_who}
 use Rattle.in_flight.specs.posix_spec.Scripted.{IsSetUp, items_of}
 use Rattle.in_flight.specs.live_model.Jobs.{without}
 use Rattle.in_flight.specs.live_model.Standing.{JobOut}
+use Rattle.in_flight.specs.write_jobs.Jobs.{FilledView, JobView}
 use Rattle.write_end.specs.Blocks.{AreBlocksHome}
 use Rattle.world_view_laws.specs.declared.views.over.Over.{Over}
-use Rattle.world_view_laws.specs.Begins.{item_of, OthersStay}
+use Rattle.world_view_laws.specs.Begins.{IsFilledOut, IsJobOut, item_of, OthersStay}
 use Rattle.world_view_laws.specs.Views.{HasNone, next_of, WorldView}
 
 -- at most one item is added, that of the caller's next call
@@ -18,10 +19,16 @@ abbrev pub AddsOne : Who → WorldView → WorldView → Type 0
 AddsOne who old new =
     (new.history ≡ old.history) ⊎ ((call : Call) × (next_of old who ≡ Some call) × (new.history ≡ old.history ++ item_of old who call ∷ []))
 
+-- WHAT BECAME OF THE JOB THAT CLAIMED: its caller has none out any more; or the power went, and it stays as an unfinished call, with its
+-- blocks at home.
+abbrev pub EndsOwn : Who → JobOut → WorldView → WorldView → Type 0
+EndsOwn who p old new = HasNone new who ⊎ ((new.lost ≡ true) × (new.pending ≡ old.pending) × AreBlocksHome p.blocks new.disk.cells)
+
 -- and at most one pair is claimed, with the entry of a job of the caller that was out
 abbrev pub ClaimsOne : Who → WorldView → WorldView → Type 0
 ClaimsOne who old new =
-    (new.claims ≡ old.claims) ⊎ ((slot : ℕ) × (p : JobOut) × In p old.pending × (p.who ≡ who) × (new.claims ≡ old.claims ++ (slot, p.draft) ∷ []))
+    (new.claims ≡ old.claims)
+    ⊎ ((slot : ℕ) × (p : JobOut) × In p old.pending × (p.who ≡ who) × (new.claims ≡ old.claims ++ (slot, p.draft) ∷ []) × EndsOwn who p old new)
 
 -- the jobs of a caller that are out, in the order of their beginning
 abbrev pub jobs_of : Who → List JobOut → List JobOut
@@ -51,6 +58,20 @@ abbrev pub KeepsHomes : Who → WorldView → WorldView → Type 0
 KeepsHomes who old new =
     old.lost ≡ true → (q : JobOut) → In q old.pending → q.who ≢ who → AreBlocksHome q.blocks old.disk.cells → AreBlocksHome q.blocks new.disk.cells
 
+-- the jobs of a caller that are out stay so, to be filled and filled
+abbrev pub StaysOf : Who → WorldView → WorldView → Type 0
+StaysOf who old new =
+    ((p : JobOut) (job : JobView) → p.who ≡ who → IsJobOut old p job → IsJobOut new p job)
+    × ((p : JobOut) (job : FilledView) → p.who ≡ who → IsFilledOut old p job → IsFilledOut new p job)
+
+-- and the blocks of its jobs that are at home stay there
+abbrev pub HomesOf : Who → WorldView → WorldView → Type 0
+HomesOf who old new = (p : JobOut) → In p old.pending → p.who ≡ who → AreBlocksHome p.blocks old.disk.cells → AreBlocksHome p.blocks new.disk.cells
+
+-- its own job stays out as it is, where the caller has the same and claimed nothing
+abbrev pub KeepsOwn : Who → WorldView → WorldView → Type 0
+KeepsOwn who old new = new.claims ≡ old.claims → jobs_of who new.pending ≡ jobs_of who old.pending → StaysOf who old new × HomesOf who old new
+
 -- The lap is the same: the numbers of the log, its base, the words that its lines had when it began, whether they are out, and how many calls
 -- had returned then.
 pub record IsSameLap (old new : WorldView) : Type 0 where
@@ -72,6 +93,7 @@ pub record IsAct (who : Who) (old new : WorldView) (before after : Supply) : Typ
   pub pair : ClaimsOne who old new
   pub jobs : KeepsOthers who old new
   pub own : MovesOwn who old new
+  pub own_stays : KeepsOwn who old new
   pub given_up : GivesUpOne who old new
   pub still : old.lost ≡ true → (new.history ≡ old.history) × (new.unfinished ≡ old.unfinished)
   pub homes : KeepsHomes who old new

@@ -33,7 +33,7 @@ use Rattle.in_flight.specs.live_model.Jobs.{SpellCall}
 use Rattle.in_flight.specs.write_jobs.Jobs.{blocks_of, FilledView, JobView}
 use Rattle.write_end.specs.Blocks.{AreBlocksOut}
 use Rattle.world_view_laws.specs.declared.views.over.Over.{Over}
-use Rattle.write_plan.specs.Plans.{placed_at, staged_run}
+use Rattle.write_end.specs.in_place.write_plan.Plans.{placed_at, staged_run}
 use Rattle.world_view_laws.specs.Holes.{file_of, holes_of, is_absent}
 use Rattle.world_view_laws.specs.Views.{Disk, files_out, inode_on, map_on, next_of, state_of, WorldView}
 
@@ -182,8 +182,15 @@ abbrev pub IsOfOpenFile : Who → Call → WorldView → Type 0
 IsOfOpenFile who (Call.Fsync h) w = (step (state_of w) who (Call.Fsync h)).outcome.reply ≡ Reply.Ok → IsSome (opened w.disk.tables who h)
 IsOfOpenFile who call w = Unit {0}
 
+-- IT IS WRITTEN WHERE IT LIES: with its holes filled, cells alone differ, and the offset of its handle.
+pub record IsInPlace (w : WorldView) (who : Who) (call : Call) (disk : Disk) : Type 0 where
+  pub middle : Disk
+  pub filled : HasFilled w who call middle
+  pub cells : disk ≡ record middle { cells = disk.cells; tables = disk.tables }
+
 -- IT RETURNED: it is not logged, the jobs that are out left what it needs, its holes could be filled, and its item stands at the end of the
--- history. Outside POSIX mode nothing was staged for it. It made, removed or moved no name, or took a step.
+-- history. Outside POSIX mode nothing was staged for it, and what it writes in place lies where it lay. It made, removed or moved no name, or
+-- took a step.
 pub record Returns (who : Who) (old new : WorldView) (before after : Supply) : Type 0 where
   pub call : Call
   pub begins : Begins old who call
@@ -194,6 +201,7 @@ pub record Returns (who : Who) (old new : WorldView) (before after : Supply) : T
   pub published : Publishes who call old new
   pub of_file : IsOfOpenFile who call old
   pub staging : old.start.mode ≢ Mode.Posix → new.disk.staging ≡ old.disk.staging
+  pub in_place : old.start.mode ≢ Mode.Posix → (range : ℕ × ℕ) → placed_at (state_of old) (put_by (state_of old) who call) ≡ Some range → IsInPlace old who call new.disk
   pub stay : OthersStay old new who
   pub on : is_on after ≡ true
   pub spent : ((after_call (state_of old) (who, call)).entries ≡ (state_of old).entries) ⊎ TakesAStep before after

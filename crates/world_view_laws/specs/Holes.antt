@@ -11,7 +11,7 @@ use Rattle.in_flight.specs.posix_types.declared.call.Who.{Who}
 use Rattle.in_flight.specs.posix_tables.declared.open.Description.{Description}
 use Rattle.in_flight.specs.posix_tables.Open.{opened}
 use Rattle.in_flight.specs.posix_spec.Put.{put_by}
-use Rattle.write_plan.specs.Plans.{placed_at}
+use Rattle.write_end.specs.in_place.write_plan.Plans.{placed_at}
 use Rattle.world_view_laws.specs.Views.{Disk, inode_on, map_on, runs_on, state_of, WorldView}
 
 -- ---- holes

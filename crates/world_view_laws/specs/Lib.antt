@@ -12,7 +12,7 @@ pub mod Laws
 pub use Rattle.eof_laws.specs.block_io as block_io
 pub use Rattle.write_end.specs.write_jobs as write_jobs
 pub use Rattle.write_end.specs as write_end
-pub use Rattle.write_plan.specs as write_plan
+pub use Rattle.write_end.specs.in_place.write_plan as write_plan
 pub use Rattle.in_flight.specs.crash_spec
 pub use Rattle.eof_laws.specs.image_model
 pub use Rattle.file_calls.specs.eof_laws

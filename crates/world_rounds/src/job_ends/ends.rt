@@ -8,7 +8,7 @@ ghost use Rattle.world_parts.specs.in_flight.world_model.Jobs.{put_bytes_of};
 ghost use Rattle.world_parts.specs.world_view_laws.Begins.{IsFilledOut};
 ghost use Rattle.world_parts.specs.world_view_laws.Jobs.{over_by, GivesUp, IsOfWorld, LosesFinish};
 ghost use Rattle.world_parts.specs.world_view_laws.write_end.in_place.Placing.{CanPlace};
-ghost use Rattle.world_parts.specs.world_view_laws.write_end.in_place.zero_fill.Gaps.{IsClearPaid};
+ghost use Rattle.world_parts.specs.world_view_laws.write_end.in_place.Gaps.{IsClearPaid};
 ghost use Rattle.world_parts.specs.world_view_laws.write_end.Landing.{front_bytes, front_end, front_start, IsFrontAnswer};
 ghost use Rattle.world_parts.specs.Answers.{IsFinished};
 ghost use Rattle.world_parts.specs.Seen.{seen, IsKept};

@@ -2,7 +2,7 @@
 use Rattle.std.proofs.Common.{◌≡◌, ◌∙◌, ◌+◌, ◌%◌, ◌^◌, ◌≤◌, ◌∷◌, [], ℕ, cond, ap, sym, subst, arith}
 use mathlib.Core.Option.{none}
 use Rattle.atomic_table.specs.Table.{Allows, Me, step}
-use Rattle.image_model.specs.pm_model.Parts.{Part}
+use Rattle.oplog_entry.specs.image_model.pm_model.Parts.{Part}
 use Rattle.oplog_entry.specs.EntryLines.{Holds}
 use Rattle.oplog_tail.specs.Rule.{Kept}
 use Rattle.oplog_tail.specs.Steps.{mark_of, marked}

@@ -1,9 +1,9 @@
 -- One word more is stored; and once the eight words stand, the line is flushed and fenced.
 use Rattle.std.proofs.Common.{◌≡◌, ◌∙◌, arith, subst, sym, ℕ, List, cond, Bool}
-use Rattle.image_model.specs.pm_model.Bytes.{word_at-bytes}
-use Rattle.image_model.specs.pm_model.Powers.{is_on}
-use Rattle.image_model.specs.pm_model.PowerLaws.{Steps-then}
-use Rattle.image_model.specs.pm_model.Words.{word_at}
+use Rattle.oplog_entry.specs.image_model.pm_model.Bytes.{word_at-bytes}
+use Rattle.oplog_entry.specs.image_model.pm_model.Powers.{is_on}
+use Rattle.oplog_entry.specs.image_model.pm_model.PowerLaws.{Steps-then}
+use Rattle.oplog_entry.specs.image_model.pm_model.Words.{word_at}
 use Rattle.oplog_entry.specs.EntryLines.{Holds, entry_words}
 use Rattle.oplog_entry.specs.declared.claims.Mark.TheVariants.{Lost, Written}
 use Rattle.oplog_entry.proofs.EntryWords.{finishes, IsStoring, stores_more}

@@ -1,6 +1,6 @@
 use Rattle.std.proofs.Common.{◌≡◌}
-use Rattle.image_model.specs.pm_model.Powers.{is_on, Steps}
-use Rattle.image_model.specs.pm_model.Words.{word_at}
+use Rattle.oplog_entry.specs.image_model.pm_model.Powers.{is_on, Steps}
+use Rattle.oplog_entry.specs.image_model.pm_model.Words.{word_at}
 use Rattle.oplog_entry.proofs.EntryWords.{IsStoring}
 use Rattle.oplog_tail.proofs.writing.write_entry.Given as goal
 

@@ -1,6 +1,6 @@
 -- What the place of all seats knows of the slots is said of the lines that come out of them.
 use Rattle.std.proofs.Common.{◌≡◌, ◌∙◌, ◌<◌, List, ℕ, length, refl, ap, sym, subst}
-use Rattle.image_model.specs.pm_model.Parts.{Part}
+use Rattle.oplog_entry.specs.image_model.pm_model.Parts.{Part}
 use Rattle.std.specs.Mem.Slots.{slots_items}
 use Rattle.oplog_tail.specs.Closing.{AreNumbered, claims_of_all, LeavesLines}
 use Rattle.oplog_entry.specs.EntryLines.{IsSingle}

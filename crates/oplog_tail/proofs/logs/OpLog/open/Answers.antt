@@ -1,6 +1,6 @@
 -- The table that is opened keeps the rule.
 use Rattle.std.proofs.Common.{◌≡◌, ◌∙◌, ◌≤◌, ◌<◌, ℕ, List, length, map, ap, sym, subst, Vec, Global}
-use Rattle.image_model.specs.pm_model.Parts.{Part}
+use Rattle.oplog_entry.specs.image_model.pm_model.Parts.{Part}
 use Rattle.pm_lines.specs.declared.lines.Line.{Line}
 use Rattle.oplog_entry.specs.EntryLines.{IsSingle}
 use Rattle.oplog_entry.specs.LogLines.{line_at}

@@ -1,0 +1,5 @@
+mod ClosedLines
+mod Working
+mod Moving
+mod Ending
+mod Crashing

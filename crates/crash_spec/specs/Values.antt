@@ -1,11 +1,10 @@
 -- Bytes and what calls make of them: the values that writes put at a byte of a file, in order, and whether the file was
 -- shortened to that byte or less. Files go by node numbers, which never change for a file.
-use Rattle.std.specs.Prelude.{◌≡◌, ◌⊎◌, ℕ, ◌-◌, Bool, false, ◌&&◌, ◌||◌, ◌==◌, nat_lt, nat_le, List, [], ◌∷◌, length, Option, Some, None, slice_get, if◌then◌else◌}
-use Rattle.posix_laws.specs.posix_tables.declared.nodes.Node.{Node}
-use Rattle.posix_laws.specs.posix_tables.Nodes.{bytes_of, node_at}
+use Rattle.std.specs.Prelude.{◌≡◌, ◌⊎◌, ℕ, ◌-◌, Bool, false, ◌&&◌, ◌||◌, ◌==◌, nat_le, List, [], ◌∷◌, Option, Some, None, slice_get, if◌then◌else◌}
 use Rattle.posix_laws.specs.posix_spec.Put.{Put, put_by}
 use Rattle.posix_laws.specs.posix_spec.Run.{after_call, Unfinished}
 use Rattle.posix_laws.specs.posix_spec.State.{State}
+pub use Rattle.posix_laws.specs.Shortens.{ends_before, shortens}
 
 -- the value that a put has for byte i of node n
 abbrev pub value_of : Option Put → ℕ → ℕ → Option ℕ
@@ -15,16 +14,6 @@ value_of (Some put) n i = if (put.node == n) && nat_le put.place i then slice_ge
 -- the value that a call puts there: none, unless it is a write that is accepted and reaches the byte
 abbrev pub value_put : State → Unfinished → ℕ → ℕ → Option ℕ
 value_put s c n i = value_of (put_by s c.0 c.1) n i
-
--- a file that is there has no byte i
-abbrev pub ends_before : Node → ℕ → Bool
-ends_before Node.Gone i = false
-ends_before Node.Directory i = false
-ends_before (Node.File file) i = nat_le (length file.bytes) i
-
--- a call shortens the file to i bytes or less
-abbrev pub shortens : State → Unfinished → ℕ → ℕ → Bool
-shortens s c n i = nat_lt i (length (bytes_of (node_at s.nodes n))) && ends_before (node_at (after_call s c).nodes n) i
 
 -- some call of a list shortens it so
 unfoldable pub is_shortened : State → List Unfinished → ℕ → ℕ → Bool

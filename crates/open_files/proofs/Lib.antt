@@ -8,3 +8,4 @@ pub mod Starting
 pub mod TableLaws
 pub mod Changes
 pub mod Lookups
+pub mod Few

@@ -21,5 +21,5 @@ mod opened;
 
 pub use faults::OpenFault;
 pub use files::OpenFiles;
-pub use laws::{bindings_are_apart, known_handles_are_open};
+pub use laws::{at_most_64_files_are_open, bindings_are_apart, known_handles_are_open};
 pub use opened::Opened;

@@ -6,6 +6,8 @@
 //! - `files`: Open files: descriptions, descriptors and handles.
 //! - `numbers`: Open files, once with inodes and once with node numbers.
 //!
+//! At most 64 files are open at once (`at_most_64_files_are_open`).
+//!
 //! `new` takes memory for 64 descriptors; once room was made, one `open` or `dup` runs out of none. A
 //! description keeps its number beside its slab key; `find` answers the key for `set_offset`.
 //!
@@ -15,7 +17,10 @@
 mod files;
 mod numbers;
 
-pub use files::{OpenFault, OpenFiles, Opened, bindings_are_apart, known_handles_are_open};
+pub use files::{
+    OpenFault, OpenFiles, Opened, at_most_64_files_are_open, bindings_are_apart,
+    known_handles_are_open,
+};
 pub use numbers::{
     a_change_opens_its_own_node_alone, numbered_tables_change_alike, numbered_tables_say_the_same,
 };

@@ -1,5 +1,4 @@
 -- The chief laws of states, each as one statement.
-use Rattle.std.specs.Prelude.{List}
 use Rattle.posix_spec.specs.posix_types.declared.call.Call.{Call}
 use Rattle.posix_spec.specs.posix_types.declared.call.Who.{Who}
 use Rattle.posix_spec.specs.State.{Fits, Instance, State}

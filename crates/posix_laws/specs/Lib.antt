@@ -18,6 +18,15 @@ pub mod TreeOf
 pub mod Orders
 pub mod OrdersLaws
 pub mod Listed
+pub mod OpenNodes
+pub mod Shortens
+pub mod Publishes
+pub mod PublishLaws
+pub mod NodeSteps
+pub mod Cuts
+pub mod CutLaws
+pub mod Lasting
+pub mod PutKeeps
 pub mod Starts
 pub use Rattle.posix_spec.specs.block_counts
 pub use Rattle.list_laws.specs as list_laws

@@ -8,14 +8,17 @@
 //! - `trees`: Trees of states: what a path leads to, and the tree that lists what stands at each
 //!   path.
 //! - `orders`: The order of a state's entries.
+//! - `publishing`: Open files and published lengths, and the state that POSIX mode would commit.
 //!
 //! Stands on `posix_spec` and `list_laws`.
 #![tactic(auto)]
 
 mod facts;
 mod orders;
+mod publishing;
 mod trees;
 
 pub use facts::states_stay_sound;
 pub use orders::{entries_stay_in_order, names_are_told_sorted};
+pub use publishing::{names_commute_with_the_cut, states_publish};
 pub use trees::{a_content_has_one_tree, a_tree_begins_as_itself, a_tree_lists_what_stands};

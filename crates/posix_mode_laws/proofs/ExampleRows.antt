@@ -1,6 +1,6 @@
 -- The worked worlds, by computation.
-use Rattle.std.specs.Prelude.{◌≡◌, ◌≢◌, ◌⊎◌, ◌<◌, ◌≤◌, ℕ, zero, suc, ◌+◌, ◌*◌, ◌/◌, ◌%◌, ◌^◌, ◌==◌, All, Bool, true, false, cond, List, [], ◌∷◌, ◌++◌, length, map, Some, IsSome, slice_index, refl}
-use Rattle.std.proofs.Common.{arith, ap, sym, subst, inl, inr}
+use Rattle.std.specs.Prelude.{◌≡◌, ◌≢◌, ◌⊎◌, ◌<◌, ◌≤◌, ℕ, zero, suc, ◌+◌, ◌*◌, ◌/◌, ◌%◌, ◌^◌, ◌==◌, All, Bool, true, false, cond, List, [], ◌∷◌, ◌++◌, length, map, None, Some, IsSome, slice_index, refl}
+use Rattle.std.proofs.Common.{arith, ap, ◌∙◌, sym, subst, inl, inr}
 use Rattle.std.proofs.lemmas.Bool.Decides.{nat_tests}
 use Rattle.std.proofs.lemmas.Option.{same_Some}
 use Rattle.world_image_laws.specs.pm_model.Words.{byte_of}
@@ -30,7 +30,8 @@ use Rattle.world_image_laws.specs.world_model.Stands.{IsUsed, LogStands, number,
 use Rattle.posix_mode_laws.specs.Example.{batch_b, batch_c, batch_d, batch_e, committed_c, committed_d, extent, kept_d, later_a, later_c, later_d, lost_call, lost_word, lost_words, no_tables, only_5, open_file, file_with, run_at, start_a, start_c, start_d, state_with, tables_p, volume_a, volume_with, words_p, world_a, world_b, world_c, world_d, world_e}
 use Rattle.posix_mode_laws.proofs.ExampleParts.{apart, apart_behind, chains_with, file_stands, files_with, fresh_with, has_bytes, log_none, log_one, mapped_with, names_once, names_with, nodes_with, sane_with, size_with, staging_with}
 use Rattle.posix_mode_laws.specs.Laws.{HasLostWrite, HasWaitingBlock, HasWorldAfterCheckpoint, HasWorldCut, HasWorldCutInCheckpoint, HasWorldInCheckpoint, HasWorldUsedAgain, HasWorldWithRun}
-use Rattle.posix_mode_laws.specs.Sides.{IsFresh, IsPublished, IsSameMap, IsSettled, MediumStands, Same, Sides, StillPublished, UsesNoFreed}
+use Rattle.world_image_laws.specs.posix_laws.Publishes.{HasPublished}
+use Rattle.posix_mode_laws.specs.Sides.{IsFresh, IsSameMap, IsSettled, MediumStands, Same, Sides, StillPublished, UsesNoFreed}
 use Rattle.posix_mode_laws.specs.Steps.{committed}
 
 -- ---- volumes and standings
@@ -65,6 +66,24 @@ run_stands s bs st own block size there = log_one (volume_with File 1 s bs st ow
   staged : HasStagingBlocks (volume_with File 1 s bs st own) (run_at block size)
   staged zero below = there
   staged (suc k) below = absurd (omega (arith, below))
+
+-- what is so of each byte that the file of inode 5 has in memory, is so of each that any file has
+length_with : (n : ℕ) (P : ℕ → ℕ → Type 0) → ((k : ℕ) → k < n → P 5 k) → (ino k : ℕ) → k < slice_index (only_5 n) ino → P ino k
+length_with n P own zero k below = absurd (omega (arith, below))
+length_with n P own (suc zero) k below = absurd (omega (arith, below))
+length_with n P own (suc (suc zero)) k below = absurd (omega (arith, below))
+length_with n P own (suc (suc (suc zero))) k below = absurd (omega (arith, below))
+length_with n P own (suc (suc (suc (suc zero)))) k below = absurd (omega (arith, below))
+length_with n P own (suc (suc (suc (suc (suc zero))))) k below = own k below
+length_with n P own (suc (suc (suc (suc (suc (suc ino)))))) k below = absurd (omega (arith, below))
+
+-- the run has each of the first bytes of the file
+run_covers : (block size k : ℕ) → k < 4096 → entry_of_block (run_at block size ∷ []) 5 (k / 4096) ≡ None → ⊥
+run_covers block size k low none =
+    let first : k / 4096 ≡ 0 = omega (arith, low) in
+    let there : entry_of_block (run_at block size ∷ []) 5 0 ≡ Some (run_at block size) = refl in
+    let never : Some (run_at block size) ≡ None = sym there ∙ ap (entry_of_block (run_at block size ∷ []) 5) (sym first) ∙ none in
+    cc
 
 -- ---- (a) a staged run
 
@@ -116,7 +135,7 @@ cut_a = record { entries = refl; count = refl; each = each } where
       byte (suc i) below = absurd (omega (arith, below))
   each (suc (suc n)) = refl
 
-published_a : (n i : ℕ) → IsPublished (node_at start_a.nodes n) i → StillPublished start_a (map begun later_a) (run start_a later_a) n i
+published_a : (n i : ℕ) → HasPublished (node_at start_a.nodes n) i → StillPublished start_a (map begun later_a) (run start_a later_a) n i
 unfolding write_rows opened key_of binding_of pwrite_done written with_file
 published_a zero i is = let low = is.below in absurd (omega (arith, low))
 published_a (suc zero) i is = let low = is.below in inr (inr (record { below = is.below; there = omega (arith, low) }))
@@ -131,6 +150,7 @@ not_cut_a (suc i) below = absurd (omega (arith, below))
 medium_a : (w : Sides) → w.committed ≡ volume_a → w.committed_numbers ≡ only_5 1 → MediumStands Overwritten w words_p start_a [] later_a
 medium_a w volume numbers = record {
   state = open_file (9 ∷ []) 1;
+  shape = refl;
   left = left_a;
   stands = subst (λ v. Stands v [] words_p w.committed_numbers (open_file (9 ∷ []) 1)) (sym volume) (subst (λ ns. Stands volume_a [] words_p ns (open_file (9 ∷ []) 1)) (sym numbers) (own_a 1));
   fsyncs = refl;
@@ -145,7 +165,7 @@ pub row_a : HasWorldWithRun
 unfolding write_rows opened key_of binding_of pwrite_done written with_file
 row_a = record {
   medium = medium_a world_a refl refl;
-  cut = record { state = open_file (9 ∷ []) 1; left = cut_a; stands = own_a 1 };
+  cut = record { state = open_file (9 ∷ []) 1; shape = refl; left = cut_a; stands = own_a 1 };
   live = live_a 1;
   lengths = record {
     count = refl;
@@ -155,6 +175,9 @@ row_a = record {
   cuts = record {
     settled = λ ino i b used below at settled. size_with File 1 1 [] (extent 0 10 2) (extent 0 12 1) (λ n k. is_shortened start_a (map begun later_a) (number (only_5 1) n) k ≡ false) not_cut_a ino i below;
     staged = λ ino i b used node past below long at settled. absurd (omega (arith, past, below));
+    unstaged = λ ino i b used long none at settled.
+        length_with 3 (λ n k. entry_of_block (run_at 0 3 ∷ []) n (k / 4096) ≡ None → is_shortened start_a (map begun later_a) (number (only_5 1) n) k ≡ false)
+        (λ k low free. absurd (run_covers 0 3 k (omega (arith, low)) free)) ino i long none;
   };
 }
 
@@ -183,11 +206,18 @@ no_freed_b = record {
   chained zero below = inr (fresh_a 14 refl)
   chained (suc j) below = absurd (omega (arith, below))
 
+-- a byte in memory is in another block than on the medium
+not_settled_b : (b i : ℕ) → i < 3 → disk_of batch_b [] 5 (i / 4096) ≡ Some b → disk_of volume_a [] 5 (i / 4096) ≡ Some b → ⊥
+not_settled_b b zero below at same = absurd (omega (arith, same_Some 10 b at, same_Some 12 b same))
+not_settled_b b (suc zero) below at same = absurd (omega (arith, same_Some 10 b at, same_Some 12 b same))
+not_settled_b b (suc (suc zero)) below at same = absurd (omega (arith, same_Some 10 b at, same_Some 12 b same))
+not_settled_b b (suc (suc (suc i))) below at same = absurd (omega (arith, below))
+
 pub row_b : HasWorldInCheckpoint
 unfolding write_rows opened key_of binding_of pwrite_done written with_file
 row_b = record {
   medium = medium_a world_b refl refl;
-  cut = record { state = open_file (9 ∷ []) 1; left = cut_a; stands = own_b };
+  cut = record { state = open_file (9 ∷ []) 1; shape = refl; left = cut_a; stands = own_b };
   live = live_b;
   lengths = record {
     count = refl;
@@ -199,6 +229,9 @@ row_b = record {
         size_with File 1 1 (14 ∷ []) (extent 1 11 1) (extent 0 10 1) (λ n k. is_shortened start_a (map begun later_a) (number (only_5 1) n) k ≡ false) not_cut_a ino i below;
     staged = λ ino i b used node past below long at settled.
         absurd (size_with File 1 1 [] (extent 0 10 2) (extent 0 12 1) (λ n k. size_of batch_b [] n ≤ k → ⊥) (λ k low most. omega (arith, low, most)) ino i below past);
+    unstaged = λ ino i b used long none at settled.
+        absurd (length_with 3 (λ n k. disk_of batch_b [] n (k / 4096) ≡ Some b → disk_of volume_a [] n (k / 4096) ≡ Some b → ⊥)
+        (λ k low. not_settled_b b k low) ino i long at settled.same);
   };
 }
 
@@ -255,7 +288,7 @@ cut_c = record { entries = refl; count = refl; each = each } where
   each (suc (suc zero)) = refl
   each (suc (suc (suc n))) = refl
 
-published_c : (n i : ℕ) → IsPublished (node_at start_c.nodes n) i → StillPublished start_c (map begun later_c) end_c n i
+published_c : (n i : ℕ) → HasPublished (node_at start_c.nodes n) i → StillPublished start_c (map begun later_c) end_c n i
 unfolding end_c
 published_c zero i is = let low = is.below in absurd (omega (arith, low))
 published_c (suc zero) i is = inr (inl refl)
@@ -276,8 +309,8 @@ no_freed_c = record {
 
 pub row_c : HasWorldUsedAgain
 row_c = record {
-  medium = record { state = start_c; left = left_c; stands = own_c; fsyncs = refl; published = subst (λ s. (n i : ℕ) → IsPublished (node_at start_c.nodes n) i → StillPublished start_c (map begun later_c) s n i) (sym ends_c) published_c };
-  cut = record { state = end_c; left = subst (λ s. IsLeft Same s end_c) (sym ends_c) cut_c; stands = batch_stands_c };
+  medium = record { state = start_c; shape = refl; left = left_c; stands = own_c; fsyncs = refl; published = subst (λ s. (n i : ℕ) → HasPublished (node_at start_c.nodes n) i → StillPublished start_c (map begun later_c) s n i) (sym ends_c) published_c };
+  cut = record { state = end_c; shape = ap (λ (s : State). s.shape) (sym ends_c); left = subst (λ s. IsLeft Same s end_c) (sym ends_c) cut_c; stands = batch_stands_c };
   live = subst (λ s. Stands batch_c [] words_p (only_5 2) s) (sym ends_c) batch_stands_c;
   lengths = record {
     count = refl;
@@ -289,6 +322,7 @@ row_c = record {
         size_with Directory 2 0 [] (extent 0 10 2) [] (λ n k. is_shortened start_c (map begun later_c) (number (only_5 2) n) k ≡ false) (λ k low. absurd (omega (arith, low))) ino i below;
     staged = λ ino i b used node past below long at settled.
         absurd (size_with File 1 1 (13 ∷ []) (extent 0 10 2) (extent 0 12 1) (λ n k. number (only_5 1) n ≡ number (only_5 2) n → ⊥) (λ k low same. omega (arith, same)) ino i below node);
+    unstaged = λ ino i b used long none at settled. absurd (length_with 0 (λ n k. ⊥) (λ k low. absurd (omega (arith, low))) ino i long);
   };
 }
 
@@ -343,7 +377,7 @@ cut_d = record { entries = refl; count = refl; each = each } where
   each (suc (suc n)) = refl
 
 -- byte 0 is published still, and bytes 1 and 2 were cut off
-published_d : (n i : ℕ) → IsPublished (node_at (open_file (9 ∷ 2 ∷ 3 ∷ []) 3).nodes n) i
+published_d : (n i : ℕ) → HasPublished (node_at (open_file (9 ∷ 2 ∷ 3 ∷ []) 3).nodes n) i
     → StillPublished (open_file (9 ∷ 2 ∷ 3 ∷ []) 3) (map begun later_d) (run (open_file (9 ∷ 2 ∷ 3 ∷ []) 3) later_d) n i
 unfolding write_rows truncate_rows opened key_of binding_of pwrite_done written with_file truncate_done is_shortened
 published_d zero i is = let low = is.below in absurd (omega (arith, low))
@@ -380,8 +414,8 @@ no_freed_d = record {
 pub row_d : HasWorldCut
 unfolding write_rows truncate_rows opened key_of binding_of pwrite_done written with_file fsync_done with_published truncate_done
 row_d = record {
-  medium = record { state = open_file (9 ∷ 2 ∷ 3 ∷ []) 3; left = left_d; stands = own_d; fsyncs = refl; published = published_d };
-  cut = record { state = open_file (9 ∷ []) 1; left = cut_d; stands = cut_stands_d };
+  medium = record { state = open_file (9 ∷ 2 ∷ 3 ∷ []) 3; shape = refl; left = left_d; stands = own_d; fsyncs = refl; published = published_d };
+  cut = record { state = open_file (9 ∷ []) 1; shape = refl; left = cut_d; stands = cut_stands_d };
   live = live_d;
   lengths = record {
     count = refl;
@@ -393,6 +427,9 @@ row_d = record {
         size_with File 1 1 (13 ∷ []) (extent 1 11 1) (extent 0 10 1) (λ n k. is_shortened (open_file (9 ∷ 2 ∷ 3 ∷ []) 3) (map begun later_d) (number (only_5 1) n) k ≡ false) not_cut_d ino i below;
     staged = λ ino i b used node past below long at settled.
         size_with File 1 3 (13 ∷ []) (extent 1 11 1) (extent 0 10 1) (λ n k. size_of batch_d [] n ≤ k → k < slice_index (only_5 2) n → IsSome (entry_of_block (run_at 1 2 ∷ []) n (k / 4096))) staged_d ino i below past long;
+    unstaged = λ ino i b used long none at settled.
+        length_with 2 (λ n k. entry_of_block (run_at 1 2 ∷ []) n (k / 4096) ≡ None → is_shortened (open_file (9 ∷ 2 ∷ 3 ∷ []) 3) (map begun later_d) (number (only_5 1) n) k ≡ false)
+        (λ k low free. absurd (run_covers 1 2 k (omega (arith, low)) free)) ino i long none;
   };
 }
 
@@ -437,11 +474,16 @@ not_settled_e b zero below past long at same = absurd (omega (arith, past))
 not_settled_e b (suc zero) below past long at same = absurd (omega (arith, same_Some 11 b at, same_Some 10 b same))
 not_settled_e b (suc (suc i)) below past long at same = absurd (omega (arith, long))
 
+no_settled_e : (b i : ℕ) → i < 2 → disk_of batch_e [] 5 (i / 4096) ≡ Some b → disk_of committed_d [] 5 (i / 4096) ≡ Some b → ⊥
+no_settled_e b zero below at same = absurd (omega (arith, same_Some 11 b at, same_Some 10 b same))
+no_settled_e b (suc zero) below at same = absurd (omega (arith, same_Some 11 b at, same_Some 10 b same))
+no_settled_e b (suc (suc i)) below at same = absurd (omega (arith, below))
+
 pub row_e : HasWorldCutInCheckpoint
 unfolding write_rows truncate_rows opened key_of binding_of pwrite_done written with_file fsync_done with_published truncate_done
 row_e = record {
-  medium = record { state = open_file (9 ∷ 2 ∷ 3 ∷ []) 3; left = left_d; stands = own_d; fsyncs = refl; published = published_d };
-  cut = record { state = open_file (9 ∷ []) 1; left = cut_d; stands = cut_stands_e };
+  medium = record { state = open_file (9 ∷ 2 ∷ 3 ∷ []) 3; shape = refl; left = left_d; stands = own_d; fsyncs = refl; published = published_d };
+  cut = record { state = open_file (9 ∷ []) 1; shape = refl; left = cut_d; stands = cut_stands_e };
   live = live_e;
   lengths = record {
     count = refl;
@@ -455,6 +497,9 @@ row_e = record {
         absurd (size_with File 1 3 (13 ∷ []) (extent 1 11 1) (extent 0 10 1)
         (λ n k. size_of batch_e [] n ≤ k → k < slice_index (only_5 2) n → disk_of batch_e [] n (k / 4096) ≡ Some b → disk_of committed_d [] n (k / 4096) ≡ Some b → ⊥)
         (not_settled_e b) ino i below past long at settled.same);
+    unstaged = λ ino i b used long none at settled.
+        absurd (length_with 2 (λ n k. disk_of batch_e [] n (k / 4096) ≡ Some b → disk_of committed_d [] n (k / 4096) ≡ Some b → ⊥)
+        (λ k low. no_settled_e b k low) ino i long at settled.same);
   };
 }
 

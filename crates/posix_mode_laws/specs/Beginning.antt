@@ -50,8 +50,8 @@ file_size v f ino (Node.File file) is = is.size
 
 world_at_rest : (rule : LaterRule) → Starts rule → (v : Volume) (f : Words) (numbers : List ℕ) (s : State) → Stands v [] f numbers s → IsAllPublished s → PosixWorld rule (at_rest v numbers) f s [] []
 world_at_rest rule starts v f numbers s stands all = record {
-  medium = record { state = s; left = left_all (rule s []) (λ n i x. starts s n i x x refl) s all; stands = stands; fsyncs = refl; published = λ n i is. inr (inr is) };
-  cut = record { state = s; left = left_all Same (λ n i x. refl) s all; stands = stands };
+  medium = record { state = s; shape = refl; left = left_all (rule s []) (λ n i x. starts s n i x x refl) s all; stands = stands; fsyncs = refl; published = λ n i is. inr (inr is) };
+  cut = record { state = s; shape = refl; left = left_all Same (λ n i x. refl) s all; stands = stands };
   live = subst (λ xs. Stands (record v { inodes = xs }) [] f numbers s) (sym (own_sizes v.inodes)) stands;
   lengths = record { count = count_sizes v.inodes; each = each };
   blocks = no_freed (at_rest v numbers) stands.sane;

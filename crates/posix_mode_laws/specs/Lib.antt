@@ -2,6 +2,16 @@ pub mod Sides
 pub mod Device
 pub mod Example
 pub mod Laws
+pub mod Batch
+pub mod BatchLaws
+pub mod CutStands
+pub mod Leading
+pub mod Permits
+pub mod BatchSteps
+pub mod Reread
+pub mod Written
+pub mod Claims
+pub mod ClaimsLaws
 pub mod Sized
 pub mod Steps
 pub mod Promises

@@ -9,7 +9,7 @@
 -- WHAT THE CALLS SEE is the batch with the lengths that files have in memory in the place of the published ones, and over it the
 -- runs that are staged and not yet published. It stands for the state of the calls. A Checkpoint puts all that is staged into the
 -- batch and keeps the published lengths: then no run is staged, and a file is longer than its inode line says.
-use Rattle.std.specs.Prelude.{◌≡◌, ◌≢◌, ◌⊎◌, ◌<◌, ◌≤◌, ◌+◌, ◌*◌, ◌/◌, ◌%◌, ℕ, true, false, List, [], ◌∷◌, ◌++◌, length, map, Some, IsSome, slice_index}
+use Rattle.std.specs.Prelude.{◌≡◌, ◌≢◌, ◌⊎◌, ◌<◌, ◌≤◌, ◌+◌, ◌*◌, ◌/◌, ◌%◌, ℕ, true, false, List, [], ◌∷◌, ◌++◌, length, map, None, Some, IsSome, slice_index}
 use Rattle.std.specs.List.{list_any}
 use Rattle.world_image_laws.specs.pm_model.Words.{byte_of, Words}
 use Rattle.world_image_laws.specs.extent_model.Extents.{disk_at}
@@ -21,9 +21,10 @@ use Rattle.world_image_laws.specs.image_model.Placed.{block_at}
 use Rattle.world_image_laws.specs.image_model.Volume.{chain, extents, inode, Volume}
 use Rattle.world_image_laws.specs.posix_types.declared.item.Item.{Item}
 use Rattle.world_image_laws.specs.posix_tables.declared.nodes.Node.{Node}
-use Rattle.world_image_laws.specs.posix_tables.Nodes.{bytes_of, node_at, published_of}
+use Rattle.world_image_laws.specs.posix_tables.Nodes.{bytes_of, node_at}
 use Rattle.world_image_laws.specs.posix_spec.Run.{Unfinished, begun, run}
 use Rattle.world_image_laws.specs.posix_spec.State.{State}
+use Rattle.world_image_laws.specs.posix_laws.Publishes.{HasPublished}
 use Rattle.world_image_laws.specs.crash_spec.Posix.{ByteRule, IsLeft, LaterRule, syncs}
 use Rattle.world_image_laws.specs.crash_spec.Values.{is_shortened, value_put}
 use Rattle.world_image_laws.specs.world_model.Stands.{IsUsed, number, Stands}
@@ -94,42 +95,43 @@ pub record UsesNoFreed (w : Sides) : Type 0 where
 abbrev pub Same : ByteRule
 Same n i v x = x ≡ v
 
--- Byte i of a node is one of its file, and published.
-pub record IsPublished (node : Node) (i : ℕ) : Type 0 where
-  pub below : i < published_of node
-  pub there : i < length (bytes_of node)
-
 -- Along later calls a byte that was published is cut off, or its file is gone, or it is published still.
 abbrev pub StillPublished : State → List Unfinished → State → ℕ → ℕ → Type 0
-StillPublished s later now n i = (is_shortened s later n i ≡ true) ⊎ ((node_at now.nodes n ≡ Node.Gone) ⊎ IsPublished (node_at now.nodes n) i)
+StillPublished s later now n i = (is_shortened s later n i ≡ true) ⊎ ((node_at now.nodes n ≡ Node.Gone) ⊎ HasPublished (node_at now.nodes n) i)
 
 -- THE MEDIUM has the kept front of the history, each file cut to its published length, each byte as the rule says of the later
 -- calls: an `fsync` that returned is kept.
 pub record MediumStands (rule : LaterRule) (w : Sides) (f : Words) (start : State) (kept later : List Item) : Type 0 where
   pub state : State
+  pub shape : state.shape ≡ start.shape
   pub left : IsLeft (rule (run start kept) (map begun later)) (run start kept) state
   pub stands : Stands w.committed [] f w.committed_numbers state
   pub fsyncs : list_any syncs later ≡ false
-  pub published : (n i : ℕ) → IsPublished (node_at (run start kept).nodes n) i
+  pub published : (n i : ℕ) → HasPublished (node_at (run start kept).nodes n) i
       → StillPublished (run start kept) (map begun later) (run (run start kept) later) n i
 
 -- THE BATCH, as it would be committed, has the whole history, each file cut to its published length, no byte changed. So both
 -- copies of a byte that is staged and published are the same.
 pub record BatchStands (w : Sides) (f : Words) (s : State) : Type 0 where
   pub state : State
+  pub shape : state.shape ≡ s.shape
   pub left : IsLeft Same s state
   pub stands : Stands w.batch [] f w.numbers state
 
 -- Bytes that were cut off since the commit. A published byte of a settled block was not: so a write in place changes no byte of the
 -- medium that was cut off. A byte past the published length that the committed file has too, which was cut off, is in a staged
 -- run where its block is settled: so it is not written in place. (A block that a run was put into, or a hole, is none that the
--- medium shows.) The stronger rule for bytes rests on both.
+-- medium shows.) And a byte in memory that no staged run has, in a settled block, was there all the time: so what publishes the
+-- length in memory publishes no byte that was cut off. The stronger rule for bytes rests on all three.
 pub record KeepsCutBytes (w : Sides) (start : State) (kept later : List Item) : Type 0 where
   pub settled : (ino i b : ℕ) → IsUsed w.batch ino → i < size_of w.batch [] ino → disk_of w.batch [] ino (i / 4096) ≡ Some b → IsSettled w ino (i / 4096) b
       → is_shortened (run start kept) (map begun later) (number w.numbers ino) i ≡ false
   pub staged : (ino i b : ℕ) → IsUsed w.batch ino → number w.committed_numbers ino ≡ number w.numbers ino → size_of w.batch [] ino ≤ i
       → i < size_of w.committed [] ino → i < slice_index w.lengths ino → disk_of w.batch [] ino (i / 4096) ≡ Some b → IsSettled w ino (i / 4096) b
       → IsSome (entry_of_block w.staged ino (i / 4096))
+  pub unstaged : (ino i b : ℕ) → IsUsed w.batch ino → i < slice_index w.lengths ino → entry_of_block w.staged ino (i / 4096) ≡ None
+      → disk_of w.batch [] ino (i / 4096) ≡ Some b → IsSettled w ino (i / 4096) b
+      → is_shortened (run start kept) (map begun later) (number w.numbers ino) i ≡ false
 
 -- THE WORLD IN POSIX MODE: the medium, the batch, and what the calls see.
 pub record PosixWorld (rule : LaterRule) (w : Sides) (f : Words) (start : State) (kept later : List Item) : Type 0 where
@@ -145,7 +147,7 @@ pub record PosixWorld (rule : LaterRule) (w : Sides) (f : Words) (start : State)
 -- A write in place that lost its power, as one standing of files has it (a volume with live entries): words changed in blocks of
 -- its file alone, as far as files of this standing have them, so that the other copy of a block, which another standing has, may
 -- change too; and each byte of the file from `first` up to `last` is the old one, or the one that the call puts there. In sync
--- mode too, an image may have such bytes. What the relations permit of it is not proved here.
+-- mode too, an image may have such bytes. In POSIX mode the stronger relation permits it (`PermitsLost`).
 pub record LosesInPlace (v : Volume) (live : List Draft) (numbers : List ℕ) (f g : Words) (s : State) (c : Unfinished) (ino first last : ℕ) : Type 0 where
   pub file : (inode v ino).kind ≡ File
   pub others : (i block b k : ℕ) → IsUsed v i → disk_of v live i block ≡ Some b → k < 4096

@@ -13,13 +13,13 @@ use Rattle.world_image_laws.specs.image_model.Volume.{chain, extents, free_inode
 use Rattle.posix_mode_laws.specs.Laws.{KeepsSane}
 use Rattle.posix_mode_laws.specs.Sides.{sized, with_sizes}
 
-length-with_sizes : (xs : List Inode) (ns : List ℕ) → length (with_sizes xs ns) ≡ length xs
+pub length-with_sizes : (xs : List Inode) (ns : List ℕ) → length (with_sizes xs ns) ≡ length xs
 length-with_sizes [] ns = refl
 length-with_sizes (x ∷ xs) [] = refl
 length-with_sizes (x ∷ xs) (n ∷ ns) = ap suc (length-with_sizes xs ns)
 
 -- a line changes in its size alone
-with_sizes-at : (xs : List Inode) (ns : List ℕ) (i : ℕ)
+pub with_sizes-at : (xs : List Inode) (ns : List ℕ) (i : ℕ)
     → slice_index_or (with_sizes xs ns) i free_inode ≡ record (slice_index_or xs i free_inode) { size = (slice_index_or (with_sizes xs ns) i free_inode).size }
 with_sizes-at [] ns i = refl
 with_sizes-at (x ∷ xs) [] i = refl

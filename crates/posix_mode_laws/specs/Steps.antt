@@ -20,6 +20,7 @@ use Rattle.world_image_laws.specs.posix_tables.Nodes.{node_at}
 use Rattle.world_image_laws.specs.posix_spec.Run.{Unfinished, begun, run}
 use Rattle.world_image_laws.specs.posix_spec.State.{State}
 use Rattle.world_image_laws.specs.posix_spec.Tree.{tree}
+use Rattle.world_image_laws.specs.posix_laws.Lasting.{run_lasts}
 use Rattle.world_image_laws.specs.posix_laws.Paths.{stands_at}
 use Rattle.world_image_laws.specs.posix_laws.TreeOf.{IsTreeOf-same, IsTreeOf-tree}
 use Rattle.world_image_laws.specs.crash_spec.Posix.{ByteRule, IsLeft, LaterRule, LastBeforeCut, NodeLeft, OrUnfinished, Overwritten, PosixBy}
@@ -31,8 +32,9 @@ use Rattle.world_image_laws.specs.world_model.Contents.{found-Stands, IsTreeOf-c
 use Rattle.world_image_laws.specs.world_model.Latest.{latest-In}
 use Rattle.world_image_laws.specs.world_model.Lent.{once_named}
 use Rattle.world_image_laws.specs.world_model.TreeRules.{IsTreeLike-names, used_below}
+use Rattle.posix_mode_laws.specs.BatchLaws.{CommitsBatch}
 use Rattle.posix_mode_laws.specs.Laws.{KeepsCommitted, KeepsStrongCommitted, PermitsTreeOfMedium, PermitsTreeStrongly, StagesNoFreed}
-use Rattle.posix_mode_laws.specs.Sides.{IsFresh, IsLengthOf, IsSettled, KeepsCutBytes, PosixWorld, Same, Sides, sized, UsesNoFreed}
+use Rattle.posix_mode_laws.specs.Sides.{AreLengths, BatchStands, IsFresh, IsLengthOf, IsSettled, KeepsCutBytes, MediumStands, PosixWorld, Same, Sides, sized, UsesNoFreed}
 use Rattle.posix_mode_laws.specs.Sized.{kind-sized}
 
 -- a weaker rule leaves more
@@ -43,16 +45,15 @@ node_weaker a b weaker n (Node.File file) Node.Directory is = is
 node_weaker a b weaker n Node.Gone y is = is
 node_weaker a b weaker n Node.Directory y is = is
 
-left_weaker : (a b : ByteRule) → ((n i v x : ℕ) → a n i v x → b n i v x) → (s m : State) → IsLeft a s m → IsLeft b s m
+pub left_weaker : (a b : ByteRule) → ((n i v x : ℕ) → a n i v x → b n i v x) → (s m : State) → IsLeft a s m → IsLeft b s m
 left_weaker a b weaker s m is = record { entries = is.entries; count = is.count; each = λ n. node_weaker a b weaker n (node_at s.nodes n) (node_at m.nodes n) (is.each n) }
 
 -- ---- the promise
 
 -- the tree of the medium is permitted, whatever the rule
-pub permitted_left : (rule : LaterRule) (w : Sides) (f : Words) (start : State) (kept later : List Item) (unfinished : List Unfinished) (left : List TreeEntry) → (world : PosixWorld rule w f start kept later) → left ≡ tree world.medium.state
-    → PosixBy rule start (kept ++ later) unfinished left
-permitted_left rule w f start kept later unfinished left world is =
-    let m = world.medium in
+pub permitted_medium : (rule : LaterRule) (w : Sides) (f : Words) (start : State) (kept later : List Item) (unfinished : List Unfinished) (left : List TreeEntry)
+    → (m : MediumStands rule w f start kept later) → left ≡ tree m.state → PosixBy rule start (kept ++ later) unfinished left
+permitted_medium rule w f start kept later unfinished left m is =
     inl (record {
       kept = kept;
       later = later;
@@ -65,12 +66,18 @@ permitted_left rule w f start kept later unfinished left world is =
       );
     })
 
+pub permitted_left : (rule : LaterRule) (w : Sides) (f : Words) (start : State) (kept later : List Item) (unfinished : List Unfinished) (left : List TreeEntry) → (world : PosixWorld rule w f start kept later) → left ≡ tree world.medium.state
+    → PosixBy rule start (kept ++ later) unfinished left
+permitted_left rule w f start kept later unfinished left world is = permitted_medium rule w f start kept later unfinished left world.medium is
+
+-- the tree that is found, of a volume in which no entry is live
+pub shown_tree : (v : Volume) (f : Words) (numbers : List ℕ) (m : State) (left : List TreeEntry) → Stands v [] f numbers m → IsTreeOfContent (found v [] f) left → left ≡ tree m
+shown_tree v f numbers m left stands shown =
+    IsTreeOf-same (stands_at m) left (tree m) (IsTreeOf-content (found v [] f) m left (found-Stands v [] f numbers m stands) shown)
+    (IsTreeOf-tree m (IsTreeLike-names v numbers m stands.sane stands.names))
+
 tree_of : (w : Sides) (f : Words) (m : State) (left : List TreeEntry) → Stands w.committed [] f w.committed_numbers m → live_entries w.committed f ≡ [] → IsTreeOfContent (found w.committed (live_entries w.committed f) f) left → left ≡ tree m
-tree_of w f m left stands none is =
-    let shown = subst (λ ds. IsTreeOfContent (found w.committed ds f) left) none is in
-    let content = found-Stands w.committed [] f w.committed_numbers m stands in
-    IsTreeOf-same (stands_at m) left (tree m) (IsTreeOf-content (found w.committed [] f) m left content shown)
-    (IsTreeOf-tree m (IsTreeLike-names w.committed w.committed_numbers m stands.sane stands.names))
+tree_of w f m left stands none is = shown_tree w.committed f w.committed_numbers m left stands (subst (λ ds. IsTreeOfContent (found w.committed ds f) left) none is)
 
 pub tree_permitted : PermitsTreeOfMedium
 tree_permitted w f start kept later unfinished left world none is =
@@ -148,33 +155,44 @@ unfolding is_shortened
 none_cut w start kept = record {
   settled = λ ino i b used below at settled. refl;
   staged = λ ino i b used node past below long at settled. absurd (omega (arith, past, below));
+  unstaged = λ ino i b used long none at settled. refl;
 }
 
-commit : (rule : LaterRule) → Starts rule → (w : Sides) (f : Words) (start : State) (kept later : List Item) → PosixWorld rule w f start kept later
-    → PosixWorld rule (record w { committed = w.batch; committed_numbers = w.numbers }) f start (kept ++ later) []
-commit rule starts w f start kept later world =
-    let all : (kept ++ later) ++ [] ≡ kept ++ later = append-nil (kept ++ later) in
+-- the batch becomes the medium, whatever the rule
+commits : (rule : LaterRule) → Starts rule → (w : Sides) (f : Words) (start : State) (history : List Item) → BatchStands w f (run start history) → Stands (sized w.lengths w.batch) w.staged f w.numbers (run start history)
+    → AreLengths w (run start history) → PosixWorld rule (record w { committed = w.batch; committed_numbers = w.numbers }) f start history []
+commits rule starts w f start history batch live lengths =
+    let all : history ++ [] ≡ history = append-nil history in
     record {
       medium = record {
-        state = world.cut.state;
-        left = left_weaker Same (rule (run start (kept ++ later)) []) (λ n i v x is. starts (run start (kept ++ later)) n i v x is) (run start (kept ++ later)) world.cut.state world.cut.left;
-        stands = world.cut.stands;
+        state = batch.state;
+        shape = batch.shape ∙ (run_lasts start history).shape;
+        left = left_weaker Same (rule (run start history) []) (λ n i v x is. starts (run start history) n i v x is) (run start history) batch.state batch.left;
+        stands = batch.stands;
         fsyncs = refl;
         published = λ n i is. inr (inr is);
       };
       cut = record {
-        state = world.cut.state;
-        left = subst (λ h. IsLeft Same (run start h) world.cut.state) (sym all) world.cut.left;
-        stands = world.cut.stands;
+        state = batch.state;
+        shape = subst (λ h. batch.state.shape ≡ (run start h).shape) (sym all) batch.shape;
+        left = subst (λ h. IsLeft Same (run start h) batch.state) (sym all) batch.left;
+        stands = batch.stands;
       };
-      live = subst (λ h. Stands (sized w.lengths w.batch) w.staged f w.numbers (run start h)) (sym all) world.live;
+      live = subst (λ h. Stands (sized w.lengths w.batch) w.staged f w.numbers (run start h)) (sym all) live;
       lengths = record {
-        count = world.lengths.count;
-        each = subst (λ h. (ino : ℕ) → IsLengthOf w (run start h) ino) (sym all) world.lengths.each;
+        count = lengths.count;
+        each = subst (λ h. (ino : ℕ) → IsLengthOf w (run start h) ino) (sym all) lengths.each;
       };
-      blocks = no_freed w world.cut.stands.sane;
-      cuts = none_cut w start (kept ++ later);
+      blocks = no_freed w batch.stands.sane;
+      cuts = none_cut w start history;
     }
+
+commit : (rule : LaterRule) → Starts rule → (w : Sides) (f : Words) (start : State) (kept later : List Item) → PosixWorld rule w f start kept later
+    → PosixWorld rule (record w { committed = w.batch; committed_numbers = w.numbers }) f start (kept ++ later) []
+commit rule starts w f start kept later world = commits rule starts w f start (kept ++ later) world.cut world.live world.lengths
+
+pub batch_commits : CommitsBatch
+batch_commits x f start history batch live lengths = commits LastBeforeCut starts_before_cut x f start history batch live lengths
 
 pub committed : KeepsCommitted
 committed w f start kept later world = commit Overwritten starts_overwritten w f start kept later world

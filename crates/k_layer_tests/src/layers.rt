@@ -1,6 +1,6 @@
 //! A full batch, the plan of a write in place, and many fences.
 ghost use Rattle.std.specs.Prelude.{◌≡◌, ◌*◌, ◌≤◌, length, IfOk};
-ghost use Rattle.k_map_tests.specs.pm_model.Cells.{AllSingle};
+ghost use Rattle.k_map_tests.specs.pm_model.Cells.{AllHome, AllSingle};
 
 use data_route::{WritePlan, plan_write};
 use k_check::{Batch, BatchFull};
@@ -22,19 +22,22 @@ fn is_full_behind_128(batch: &mut Batch) -> bool {
     }
 }
 
-#[test]
-fn batch_is_full_at_129_lines(rt: HostRuntime) -> Result<(), Fail> {
-    let mut batch = Batch::new(rt.alloc())?;
-    let is_full = is_full_behind_128(&mut batch);
-    assert!(rt; is_full);
-    Ok(())
+// The same of a fresh batch.
+fn is_full(alloc: Global) -> Result<bool, AllocError> {
+    let mut batch = Batch::new(alloc)?;
+    Ok(is_full_behind_128(&mut batch))
+}
+
+// Whether that is told so.
+fn is_told(alloc: Global) -> Result<bool, AllocError> {
+    let full = BatchFull { count: 128 };
+    let text = format!(in alloc; "{full}")?;
+    Ok(text.as_str() == "the batch is full at 128 lines")
 }
 
 #[test]
-fn text_of_a_full_batch(rt: HostRuntime) -> Result<(), Fail> {
-    let full = BatchFull { count: 128 };
-    let text = format!(in rt.alloc(); "{full}")?;
-    assert_eq!(rt; text.as_str(), "the batch is full at 128 lines");
+fn batch_is_full_at_129_lines(rt: HostRuntime) -> Result<(), Fail> {
+    assert!(rt; is_full(rt.alloc())? && is_told(rt.alloc())?);
     Ok(())
 }
 
@@ -43,37 +46,49 @@ fn is_planned(mode: Mode, size: u64, offset: u64, len: u64, plan: &WritePlan) ->
     size < 65536 && offset < 65536 && len < 65536 && plan_write(mode, size, offset, len) == *plan
 }
 
-// Two bytes over a border, a write over the end of a file of 5,000 bytes, and one behind it.
-#[test]
-fn what_a_write_stages_and_writes_in_place(rt: HostRuntime) {
-    let strict = WritePlan {
+// A plan that cleans no tail.
+const fn plan(
+    in_place: Option<(u64, u64)>,
+    staged: Option<(u32, u32)>,
+    new_size: u64,
+) -> WritePlan {
+    WritePlan {
         clean_tail: false,
-        in_place: None,
-        staged: Some((0, 2)),
-        new_size: 8192,
-    };
-    assert!(rt; is_planned(Mode::Strict, 8192, 4095, 2, &strict));
-    let sync = WritePlan {
-        clean_tail: false,
-        in_place: Some((4095, 4097)),
-        staged: None,
-        new_size: 8192,
-    };
-    assert!(rt; is_planned(Mode::Sync, 8192, 4095, 2, &sync));
-    let over_the_end = WritePlan {
-        clean_tail: false,
-        in_place: Some((4090, 4096)),
-        staged: Some((1, 1)),
-        new_size: 5090,
-    };
-    assert!(rt; is_planned(Mode::Sync, 5000, 4090, 1000, &over_the_end));
+        in_place,
+        staged,
+        new_size,
+    }
+}
+
+// Two bytes over a border, in both modes; a write over the end of a file of 5,000 bytes, and one behind it.
+fn are_planned() -> bool {
     let behind_the_end = WritePlan {
         clean_tail: true,
         in_place: None,
         staged: Some((2, 1)),
         new_size: 9004,
     };
-    assert!(rt; is_planned(Mode::Sync, 5000, 9000, 4, &behind_the_end));
+    is_planned(Mode::Strict, 8192, 4095, 2, &plan(None, Some((0, 2)), 8192))
+        && is_planned(
+            Mode::Sync,
+            8192,
+            4095,
+            2,
+            &plan(Some((4095, 4097)), None, 8192),
+        )
+        && is_planned(
+            Mode::Sync,
+            5000,
+            4090,
+            1000,
+            &plan(Some((4090, 4096)), Some((1, 1)), 5090),
+        )
+        && is_planned(Mode::Sync, 5000, 9000, 4, &behind_the_end)
+}
+
+#[test]
+fn what_a_write_stages_and_writes_in_place(rt: HostRuntime) {
+    assert!(rt; are_planned());
 }
 
 // A device of zeros.
@@ -86,15 +101,28 @@ fn device(alloc: Global, blocks: usize) -> Result<Pm, AllocError>
     Pm::from_image(alloc, &image)
 }
 
+// So many fences, each behind a flush.
+fn fences(pm: &mut Pm, power: &mut Power, count: u32)
+    requires size { 512 ≤ length pm.old }
+    requires home { AllHome pm.old }
+{
+    for _ in 0..count {
+        pm.flush(power, 1);
+        pm.fence(power);
+    }
+}
+
+// Whether the power of 200,000 steps is gone behind them.
+fn fences_take_steps(alloc: Global) -> Result<bool, AllocError> {
+    let mut pm = device(alloc, 16384)?;
+    let mut power = Power::after(200_000);
+    fences(&mut pm, &mut power, 100_000);
+    Ok(!power.on())
+}
+
 // A fence that looked at each word of this device would take minutes.
 #[test]
 fn many_fences_of_a_large_device(rt: HostRuntime) -> Result<(), Fail> {
-    let mut pm = device(rt.alloc(), 16384)?;
-    let mut power = Power::after(200_000);
-    for _ in 0..100_000 {
-        pm.flush(&mut power, 1);
-        pm.fence(&mut power);
-    }
-    assert!(rt; !power.on());
+    assert!(rt; fences_take_steps(rt.alloc())?);
     Ok(())
 }

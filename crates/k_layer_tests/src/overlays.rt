@@ -2,8 +2,9 @@
 ghost use Rattle.std.specs.Prelude.{◌<◌, ◌≤◌};
 
 use file_overlay::{Overlay, Run};
+use std::alloc::Global;
 use std::test::Fail;
-use test_kit::Draws;
+use test_kit::{Draws, RowError};
 
 const RUNS: u64 = 400;
 
@@ -45,21 +46,52 @@ fn finds_the_same(overlay: &Overlay, runs: &[Run]) -> bool {
     true
 }
 
-#[test]
-fn drawn_runs_are_found_as_in_the_list(rt: HostRuntime) -> Result<(), Fail> {
+// Lays a run over the others, and adds it to the list. Whether each block is found as in the list.
+fn lay_both(overlay: &mut Overlay, runs: &mut Vec<Run>, run: Run) -> Result<bool, RowError>
+    requires file_block { run.file_block < 64 }
+    requires staging_block { run.staging_block < 56 }
+    requires count { run.count < 9 }
+{
+    overlay.reserve()?;
+    overlay.lay(run);
+    runs.push(run)?;
+    Ok(finds_the_same(overlay, runs))
+}
+
+// Lays a drawn run; behind each hundredth both are cleared.
+fn lay_drawn(
+    overlay: &mut Overlay,
+    runs: &mut Vec<Run>,
+    draws: &mut Draws,
+    order: u64,
+) -> Result<bool, RowError> {
+    let is_same = lay_both(overlay, runs, drawn_run(draws, order))?;
+    if order % 100 == 99 {
+        overlay.clear();
+        runs.clear();
+    }
+    Ok(is_same)
+}
+
+// The first run behind which a block is found otherwise than in the list.
+fn first_unlike(overlay: &mut Overlay, runs: &mut Vec<Run>) -> Result<Option<u64>, RowError> {
     let mut draws = Draws::new(SEED);
-    let mut overlay = Overlay::new(rt.alloc());
-    let mut runs = Vec::new(rt.alloc());
     for order in 0..RUNS {
-        let run = drawn_run(&mut draws, order);
-        overlay.reserve()?;
-        overlay.lay(run);
-        runs.push(run)?;
-        assert!(rt; finds_the_same(&overlay, &runs), "run {order}");
-        if order % 100 == 99 {
-            overlay.clear();
-            runs.clear();
+        if !lay_drawn(overlay, runs, &mut draws, order)? {
+            return Ok(Some(order));
         }
     }
+    Ok(None)
+}
+
+fn unlike(alloc: Global) -> Result<Option<u64>, RowError> {
+    let mut overlay = Overlay::new(alloc);
+    let mut runs = Vec::new(alloc);
+    first_unlike(&mut overlay, &mut runs)
+}
+
+#[test]
+fn drawn_runs_are_found_as_in_the_list(rt: HostRuntime) -> Result<(), Fail> {
+    assert_eq!(rt; unlike(rt.alloc())?, None);
     Ok(())
 }

@@ -1,1 +1,4 @@
+mod CalmLaws
+mod Homes
+mod LeftHomes
 mod Loans

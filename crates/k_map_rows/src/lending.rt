@@ -4,8 +4,7 @@ ghost use Rattle.k_map_tests.specs.pm_model.Cells.{AllHome};
 ghost use Rattle.k_map_tests.specs.Calls.{IsFresh};
 ghost use Rattle.k_map_rows.specs.Lends.{IsOut};
 
-use crate::reading::number;
-use k_map_tests::{Reply, has_block, left};
+use k_map_tests::{Reply, has_block};
 use k_split::KSplit;
 use pm_lines::{Loan, Power};
 use std::alloc::Global;
@@ -23,21 +22,21 @@ fn lent(k: &mut KSplit, alloc: Global, staging: u32, block: u32) -> Result<Optio
 }
 
 // Stores a word into a block that is lent, and makes it durable.
-fn store(loan: &mut Loan, word: u32, value: u64) -> Result<(), RowError>
+fn store(loan: &mut Loan, word: u32, value: u64) -> Reply
     ensures { loan.new.place ≡ loan.old.place }
 {
     if word >= 512 || !loan.single(word) {
-        return Err(RowError::Misspelled);
+        return Reply::Unfit;
     }
     let mut power = Power::always();
     loan.store_word(&mut power, word, value);
     loan.flush(&mut power, word / 8);
     loan.fence(&mut power);
-    Ok(())
+    Reply::Done
 }
 
 // Lends a block, stores a word into it and takes it back.
-fn stored(
+pub(crate) fn stored(
     k: &mut KSplit,
     alloc: Global,
     staging: u32,
@@ -51,31 +50,9 @@ fn stored(
     match lent(k, alloc, staging, block)? {
         None => Ok(Reply::Unfit),
         Some(mut loan) => {
-            store(&mut loan, word, value)?;
+            let reply = store(&mut loan, word, value);
             k.settle(loan);
-            Ok(Reply::Done)
+            Ok(reply)
         }
     }
-}
-
-// The row `lend STAGING BLOCK WORD VALUE`.
-fn stored_as_asked(k: &mut KSplit, alloc: Global, row: &str) -> Result<Reply, RowError>
-    requires { IsFresh k.old }
-    ensures { OnOk result (AllHome k.new.cells) }
-{
-    let (staging, block) = (number(row, 1)?, number(row, 2)?);
-    let (word, value) = (number(row, 3)?, number(row, 4)?);
-    stored(k, alloc, staging, block, word, u64::from(value))
-}
-
-// The reply of such a row, and the image that is left.
-pub(crate) fn lend_and_store(
-    alloc: Global,
-    mut k: KSplit,
-    row: &str,
-) -> Result<(Vec<u8>, Reply), RowError>
-    requires { IsFresh k }
-{
-    let reply = stored_as_asked(&mut k, alloc, row)?;
-    Ok((left(alloc, k)?, reply))
 }

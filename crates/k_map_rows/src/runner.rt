@@ -1,15 +1,21 @@
-//! Runs sequences, each on a device of its own, which is checked and opened anew after each call.
-ghost use Rattle.std.specs.Prelude.{IfOk, OnOk};
+//! Runs rows, each on an image of its own, which is checked by the rules and opened for each line.
+ghost use Rattle.std.specs.Prelude.{OnOk};
+ghost use Rattle.k_map_tests.specs.pm_model.Cells.{AllHome};
 ghost use Rattle.k_map_tests.specs.Calls.{IsFresh};
 
-use crate::lending::lend_and_store;
-use crate::reading::{call, number};
-use crate::shown::{bytes_text, reply_text};
-use crate::stops::{stop_bytes, stop_maps};
-use k_map_tests::{MapCall, Reply, begun, left, made, map_text, opened, reopened};
+use crate::contents::put_content;
+use crate::entering::three_entered;
+use crate::lending::stored;
+use crate::publishing::three_runs;
+use crate::reading::{first_word, numbers};
+use crate::shown::{put_bytes, put_map, put_reply};
+use crate::stops::{asked_of, done, line_stopped};
+use crate::texts::{Text, row_told};
+use k_map_tests::{MapCall, Reply, begun, left, made, opened};
 use k_split::KSplit;
+use pm_lines::Power;
 use std::alloc::Global;
-use test_kit::{RowError, asked, option, word};
+use test_kit::{RowError, asked, option, small_number};
 
 // Fills every second block of a file from block 0 on, each by a call.
 fn spread(alloc: Global, k: &mut KSplit, ino: u32, count: u32) -> Result<Reply, RowError>
@@ -30,128 +36,153 @@ fn spread(alloc: Global, k: &mut KSplit, ino: u32, count: u32) -> Result<Reply, 
     Ok(Reply::Done)
 }
 
-// Makes the calls that a row asks for.
-fn changed(alloc: Global, k: &mut KSplit, row: &str) -> Result<Reply, RowError>
+// Makes a change, with power that lasts.
+fn made_whole(k: &mut KSplit, alloc: Global, name: &str, numbers: &[u32]) -> Result<Reply, RowError>
     requires { IsFresh k.old }
-    ensures { OnOk result (IsFresh k.new) }
+    ensures { OnOk result (AllHome k.new.cells) }
 {
-    if word(row, 0) == "spread" {
-        spread(alloc, k, number(row, 1)?, number(row, 2)?)
-    } else {
-        let asked = call(row)?;
-        made(alloc, k, &asked)
+    let asked = asked_of(name, numbers)?;
+    let mut power = Power::always();
+    done(k, alloc, &asked, &mut power)
+}
+
+// Makes the change that a line asks for, by its first word and its numbers.
+fn changed(k: &mut KSplit, alloc: Global, name: &str, numbers: &[u32]) -> Result<Reply, RowError>
+    requires { IsFresh k.old }
+    ensures { OnOk result (AllHome k.new.cells) }
+{
+    match (name, numbers) {
+        ("lend", &[staging, block, word, value]) => {
+            stored(k, alloc, staging, block, word, u64::from(value))
+        }
+        ("spread", &[ino, count]) => Ok(spread(alloc, k, ino, count)?),
+        _ => made_whole(k, alloc, name, numbers),
     }
 }
 
-// The same, with the reply told.
-fn change_told(alloc: Global, k: &mut KSplit, row: &str) -> Result<String, RowError>
-    requires { IsFresh k.old }
-    ensures { OnOk result (IsFresh k.new) }
-{
-    let reply = changed(alloc, k, row)?;
-    Ok(reply_text(alloc, reply)?)
+// The same of an image, with the reply told.
+fn change(
+    text: &mut Text,
+    alloc: Global,
+    image: &mut Vec<u8>,
+    name: &str,
+    numbers: &[u32],
+) -> Result<(), RowError> {
+    let mut k = opened(alloc, image)?;
+    let reply = changed(&mut k, alloc, name, numbers)?;
+    *image = left(alloc, k)?;
+    put_reply(text, reply);
+    Ok(())
 }
 
-// What a row asks to be shown; None where it asks for a change.
-fn shown(alloc: Global, k: &KSplit, row: &str) -> Result<Option<String>, RowError>
+fn put_free(text: &mut Text, k: &KSplit) {
+    text.put_number(u64::from(k.free_blocks()));
+}
+
+// Adds what a line asks to be shown.
+fn show(
+    text: &mut Text,
+    alloc: Global,
+    k: &KSplit,
+    name: &str,
+    numbers: &[u32],
+) -> Result<(), RowError>
     requires { IsFresh k.now }
 {
-    let text = match word(row, 0) {
-        "map" => map_text(alloc, k, number(row, 1)?)?,
-        "bytes" => bytes_text(alloc, k, number(row, 1)?, number(row, 2)?, number(row, 3)?)?,
-        "free" => {
-            let free = k.free_blocks();
-            format!(in alloc; "{free}")?
+    match (name, numbers) {
+        ("map", &[ino]) => put_map(text, alloc, k, ino),
+        ("bytes", &[ino, at, count]) => put_bytes(text, k, ino, at, count),
+        ("free", &[]) => {
+            put_free(text, k);
+            Ok(())
         }
-        _ => return Ok(None),
-    };
-    Ok(Some(text))
-}
-
-// What comes of a row that goes by images of the device; None where it is another row.
-fn on_images(alloc: Global, image: &[u8], row: &str) -> Result<String, RowError> {
-    let (first, rest) = row.split_once(' ').unwrap_or((row, ""));
-    match first {
-        "cut" => stop_maps(alloc, image, rest),
-        "torn" => stop_bytes(alloc, image, rest),
+        ("reads", &[]) => put_content(text, k, &three_runs()),
         _ => Err(RowError::Misspelled),
     }
 }
 
-fn is_on_images(row: &str) -> bool {
-    let first = word(row, 0);
-    first == "cut" || first == "torn"
+// The same of an image.
+fn show_image(
+    text: &mut Text,
+    alloc: Global,
+    image: &[u8],
+    name: &str,
+    numbers: &[u32],
+) -> Result<(), RowError> {
+    let k = opened(alloc, image)?;
+    show(text, alloc, &k, name, numbers)
 }
 
-// The reply of a row that makes a change, and the device then.
-fn follow(alloc: Global, mut k: KSplit, row: &str) -> Result<(KSplit, String), RowError>
-    requires { IsFresh k }
-    ensures { IfOk result (λ after. IsFresh after.0) }
-{
-    if is_on_images(row) {
-        let image = left(alloc, k)?;
-        let text = on_images(alloc, &image, row)?;
-        return Ok((opened(alloc, &image)?, text));
-    }
-    if word(row, 0) == "lend" {
-        let (image, reply) = lend_and_store(alloc, k, row)?;
-        let text = reply_text(alloc, reply)?;
-        return Ok((opened(alloc, &image)?, text));
-    }
-    let text = change_told(alloc, &mut k, row)?;
-    Ok((reopened(alloc, k)?, text))
+// Puts the entries of the three runs into an image.
+fn enter(text: &mut Text, alloc: Global, image: &mut Vec<u8>) -> Result<(), RowError> {
+    text.put("ok");
+    three_entered(alloc, image)
 }
 
-// The reply of a row, and the device then.
-fn came(alloc: Global, k: KSplit, row: &str) -> Result<(KSplit, String), RowError>
-    requires { IsFresh k }
-    ensures { IfOk result (λ after. IsFresh after.0) }
-{
-    match shown(alloc, &k, row)? {
-        Some(text) => Ok((k, text)),
-        None => follow(alloc, k, row),
+// Adds what is answered to a line, by its first word and what stands behind it.
+fn answer(
+    text: &mut Text,
+    alloc: Global,
+    image: &mut Vec<u8>,
+    name: &str,
+    rest: &str,
+) -> Result<(), RowError> {
+    match name {
+        "cut" | "torn" | "kept" => line_stopped(text, alloc, image, name, rest),
+        "map" | "bytes" | "free" | "reads" => {
+            show_image(text, alloc, image, name, &numbers(alloc, rest)?)
+        }
+        "enter" => enter(text, alloc, image),
+        _ => change(text, alloc, image, name, &numbers(alloc, rest)?),
     }
 }
 
-// How many blocks the device has that a row begins on.
+// Adds what is answered to each line of a row.
+fn answer_all(
+    text: &mut Text,
+    alloc: Global,
+    image: &mut Vec<u8>,
+    row: &str,
+) -> Result<(), RowError> {
+    for line in row.lines() {
+        if let Some((call, _)) = asked(line) {
+            let (name, rest) = first_word(call);
+            answer(text, alloc, image, name, rest)?;
+            text.put("\n");
+        }
+    }
+    Ok(())
+}
+
+// How many blocks the image has that a row begins on.
 fn blocks_of(row: &str) -> Result<u32, RowError> {
     match option(row, "image") {
         None => Ok(128),
-        Some(blocks) => number(blocks, 0),
+        Some(blocks) => small_number(blocks),
     }
 }
 
-// A line that is answered otherwise, with the answer that came.
-fn unlike(alloc: Global, line: &str, text: &str, wanted: &str) -> Result<Option<String>, RowError> {
-    if text == wanted {
-        return Ok(None);
-    }
-    Ok(Some(format!(in alloc; "{line}, and not {text}")?))
+// The image that a row begins on.
+fn image_of(alloc: Global, row: &str) -> Result<Vec<u8>, RowError> {
+    left(alloc, begun(alloc, blocks_of(row)?)?)
 }
 
-// The same of a line of a row, and the device then.
-fn difference_at(alloc: Global, k: KSplit, line: &str) -> Result<(KSplit, Option<String>), RowError>
-    requires { IsFresh k }
-    ensures { IfOk result (λ after. IsFresh after.0) }
-{
-    let Some((call, wanted)) = asked(line) else {
-        return Ok((k, None));
-    };
-    let (after, text) = came(alloc, k, call)?;
-    let difference = unlike(alloc, line, text.as_str(), wanted)?;
-    Ok((after, difference))
+// Checks an image by the rules.
+fn check(alloc: Global, image: &[u8]) -> Result<(), RowError> {
+    let _k = opened(alloc, image)?;
+    Ok(())
+}
+
+// Adds the answers to a row. The image that it leaves is checked too.
+fn put_answers(text: &mut Text, alloc: Global, row: &str) -> Result<(), RowError> {
+    let mut image = image_of(alloc, row)?;
+    answer_all(text, alloc, &mut image, row)?;
+    check(alloc, &image)
 }
 
 // How a row goes: `ok`, or the first line that is answered otherwise.
 pub(crate) fn told(alloc: Global, row: &str) -> Result<String, RowError> {
-    let right = "ok".to_string(alloc)?;
-    let mut k = begun(alloc, blocks_of(row)?)?;
-    for line in row.lines() {
-        let (after, difference) = difference_at(alloc, k, line)?;
-        k = after;
-        if let Some(text) = difference {
-            return Ok(text);
-        }
-    }
-    Ok(right)
+    let mut text = Text::new(alloc);
+    put_answers(&mut text, alloc, row)?;
+    row_told(alloc, row, &text.end()?)
 }

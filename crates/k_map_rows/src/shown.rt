@@ -1,76 +1,77 @@
-//! What a K-Split shows of its maps and bytes, as rows spell it.
+//! Replies, and what a K-Split shows of its maps and bytes, as rows spell it.
 ghost use Rattle.k_map_tests.specs.Calls.{IsFresh};
 
+use crate::texts::Text;
 use k_map_tests::{Reply, block_bytes, map_text};
 use k_split::KSplit;
-use posix_types::What;
-use std::alloc::{AllocError, Global};
+use posix_types::{Room, What};
+use std::alloc::Global;
 use test_kit::RowError;
 
-// A reply.
-pub(crate) fn reply_text(alloc: Global, reply: Reply) -> Result<String, AllocError> {
+fn put_room(text: &mut Text, room: Room) {
+    let what = match room.what {
+        What::Blocks => "blocks ",
+        What::Nodes => "nodes ",
+        What::Names => "names ",
+    };
+    text.put("room ");
+    text.put(what);
+    text.put_number(room.need);
+    text.put(" ");
+    text.put_number(room.room);
+}
+
+// Adds a reply.
+pub(crate) fn put_reply(text: &mut Text, reply: Reply) {
     match reply {
-        Reply::Done => format!(in alloc; "ok"),
-        Reply::Lost => format!(in alloc; "lost"),
-        Reply::Unfit => format!(in alloc; "unfit"),
-        Reply::Room(room) => {
-            let what = match room.what {
-                What::Blocks => "blocks",
-                What::Nodes => "nodes",
-                What::Names => "names",
-            };
-            let (need, left) = (room.need, room.room);
-            format!(in alloc; "room {what} {need} {left}")
-        }
+        Reply::Done => text.put("ok"),
+        Reply::Lost => text.put("lost"),
+        Reply::Unfit => text.put("unfit"),
+        Reply::Room(room) => put_room(text, room),
     }
 }
 
-// The maps of all inodes, a line each.
-pub(crate) fn all_maps(alloc: Global, k: &KSplit) -> Result<String, RowError> {
-    let mut text = String::new(alloc);
-    for ino in [1, 2, 3, 4, 5, 6] {
-        text.push_str(&map_text(alloc, k, ino)?)?;
-        text.push('\n')?;
-    }
-    Ok(text)
+// Adds the map of an inode.
+pub(crate) fn put_map(
+    text: &mut Text,
+    alloc: Global,
+    k: &KSplit,
+    ino: u32,
+) -> Result<(), RowError> {
+    text.put(&map_text(alloc, k, ino)?);
+    Ok(())
 }
 
 // One byte of a file: 0 where its block is a hole.
 fn byte_at(k: &KSplit, ino: u32, at: u32) -> Result<u8, RowError>
     requires { IsFresh k.now }
 {
-    let Some(map) = k.map(ino) else {
-        return Err(RowError::Misspelled);
+    let block = match k.map(ino) {
+        Some(map) => map.lookup(at / 4096),
+        None => None,
     };
-    match map.lookup(at / 4096) {
-        Some(block) => {
-            let bytes = block_bytes(k, block)?;
-            Ok(bytes[(at % 4096) as usize])
-        }
+    match block {
+        Some(block) => Ok(block_bytes(k, block)?[(at % 4096) as usize]),
         None => Ok(0),
     }
 }
 
-// Bytes of a file, with a space between two.
-pub(crate) fn bytes_text(
-    alloc: Global,
+// Adds bytes of a file, with a space between two.
+pub(crate) fn put_bytes(
+    text: &mut Text,
     k: &KSplit,
     ino: u32,
     at: u32,
     count: u32,
-) -> Result<String, RowError>
+) -> Result<(), RowError>
     requires { IsFresh k.now }
 {
-    if at > 16_777_216 || count > 16 {
-        return Err(RowError::Misspelled);
-    }
-    let mut text = String::new(alloc);
-    for place in at..at + count {
-        if !text.is_empty() {
-            text.push(' ')?;
-        }
+    let mut gap = "";
+    for place in at..at.saturating_add(count) {
         let byte = byte_at(k, ino, place)?;
-        write!(&mut text, "{byte}")?;
+        text.put(gap);
+        text.put_number(u64::from(byte));
+        gap = " ";
     }
-    Ok(text)
+    Ok(())
 }

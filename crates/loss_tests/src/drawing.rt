@@ -1,98 +1,84 @@
 //! Scripts that are drawn from a seed.
+//!
+//! The calls stand in templates, parted by `;`, of which one is drawn: small letters stand for themselves, and each great one for a word
+//! or a number that is drawn: a handle `H`, a path `P`, flags `F`, a byte `B`, an offset `N`, a count `C` and a short one `S`.
 use std::alloc::{AllocError, Global};
 use test_kit::Draws;
 
-fn handle(draws: &mut Draws) -> &'static str {
-    match draws.below(4) {
-        0 => "a",
-        1 => "b",
-        2 => "c",
-        _ => "d",
+const HANDLES: &str = "close H;dup H H;open H P F;open H P F;open H P F;open H P F";
+
+const NAMES: &str = "mkdir P;rmdir P;unlink P;unlink P;rename P P;stat P;list P";
+
+const LOOKS: &str = "read H S;pread H N S;seek H set N;seek H end -S";
+
+const SIZES: &str = "truncate H N;fsync H";
+
+const PUTS: &str = "write H B*C;pwrite H N B*C";
+
+// Of sixteen calls so many are of each kind.
+const CALLS: [&str; 16] = [
+    HANDLES, HANDLES, HANDLES, HANDLES, NAMES, NAMES, LOOKS, LOOKS, LOOKS, SIZES, SIZES, PUTS,
+    PUTS, PUTS, PUTS, PUTS,
+];
+
+// One of some words.
+fn one_of<'a>(draws: &mut Draws, words: &'a str, between: char) -> &'a str {
+    let count = words.split(between).count();
+    let place = draws.wide_below(count as u64);
+    words.split(between).nth(place as usize).unwrap_or("")
+}
+
+// The words that a letter stands for.
+fn words_of(letter: char) -> &'static str {
+    match letter {
+        'H' => "a b c d",
+        'P' => "/f /g /h /d/f /d/g /d",
+        'F' => "rwc rwct rwac wc rw r",
+        'B' => "61 62 63 64",
+        _ => "",
     }
 }
 
-fn path(draws: &mut Draws) -> &'static str {
-    match draws.below(6) {
-        0 => "/f",
-        1 => "/g",
-        2 => "/h",
-        3 => "/d/f",
-        4 => "/d/g",
-        _ => "/d",
+// The least of the numbers that a letter stands for, and how many they are.
+fn numbers_of(letter: char) -> (u64, u64) {
+    match letter {
+        'N' => (0, 20_000),
+        'C' => (1, 9_000),
+        'S' => (1, 300),
+        _ => (0, 0),
     }
 }
 
-fn flags(draws: &mut Draws) -> &'static str {
-    match draws.below(6) {
-        0 => "rwc",
-        1 => "rwct",
-        2 => "rwac",
-        3 => "wc",
-        4 => "rw",
-        _ => "r",
+// Adds what a letter of a template stands for.
+fn add_letter(script: &mut String, draws: &mut Draws, letter: char) -> Result<(), AllocError> {
+    let words = words_of(letter);
+    if !words.is_empty() {
+        return script.push_str(one_of(draws, words, ' '));
     }
+    let (least, count) = numbers_of(letter);
+    if count == 0 {
+        return script.push(letter);
+    }
+    let number = draws.wide_below(count).saturating_add(least);
+    write!(script, "{number}")
 }
 
-fn byte(draws: &mut Draws) -> &'static str {
-    match draws.below(4) {
-        0 => "61",
-        1 => "62",
-        2 => "63",
-        _ => "64",
+// Adds a call of a template.
+fn add_call(script: &mut String, draws: &mut Draws, template: &str) -> Result<(), AllocError> {
+    for letter in template.chars() {
+        add_letter(script, draws, letter)?;
     }
+    script.push('\n')
 }
 
-fn name_call(alloc: Global, draws: &mut Draws) -> Result<String, AllocError> {
-    let (one, other) = (path(draws), path(draws));
-    match draws.below(7) {
-        0 => format!(in alloc; "mkdir {one}\n"),
-        1 => format!(in alloc; "rmdir {one}\n"),
-        2 | 3 => format!(in alloc; "unlink {one}\n"),
-        4 => format!(in alloc; "rename {one} {other}\n"),
-        5 => format!(in alloc; "stat {one}\n"),
-        _ => format!(in alloc; "list {one}\n"),
+// Adds so many calls of one thread.
+fn add_calls(script: &mut String, draws: &mut Draws, calls: u64) -> Result<(), AllocError> {
+    for _ in 0..calls {
+        let kind = CALLS[draws.below(16) as usize];
+        let template = one_of(draws, kind, ';');
+        add_call(script, draws, template)?;
     }
-}
-
-fn put_call(alloc: Global, draws: &mut Draws) -> Result<String, AllocError> {
-    let (name, value) = (handle(draws), byte(draws));
-    let (at, count) = (draws.below(20000), draws.below(9000) + 1);
-    if draws.below(2) == 0 {
-        format!(in alloc; "write {name} {value}*{count}\n")
-    } else {
-        format!(in alloc; "pwrite {name} {at} {value}*{count}\n")
-    }
-}
-
-fn look_call(alloc: Global, draws: &mut Draws) -> Result<String, AllocError> {
-    let name = handle(draws);
-    let (at, count) = (draws.below(20000), draws.below(300) + 1);
-    match draws.below(4) {
-        0 => format!(in alloc; "read {name} {count}\n"),
-        1 => format!(in alloc; "pread {name} {at} {count}\n"),
-        2 => format!(in alloc; "seek {name} set {at}\n"),
-        _ => format!(in alloc; "seek {name} end -{count}\n"),
-    }
-}
-
-fn size_call(alloc: Global, draws: &mut Draws) -> Result<String, AllocError> {
-    let name = handle(draws);
-    let size = draws.below(20000);
-    if draws.below(2) == 0 {
-        format!(in alloc; "truncate {name} {size}\n")
-    } else {
-        format!(in alloc; "fsync {name}\n")
-    }
-}
-
-fn handle_call(alloc: Global, draws: &mut Draws) -> Result<String, AllocError> {
-    let (name, other) = (handle(draws), handle(draws));
-    let (place, how) = (path(draws), flags(draws));
-    match draws.below(6) {
-        0 => format!(in alloc; "close {name}\n"),
-        1 => format!(in alloc; "dup {name} {other}\n"),
-        _ => format!(in alloc; "open {name} {place} {how}\n"),
-    }
+    Ok(())
 }
 
 // So many calls of one thread.
@@ -102,17 +88,14 @@ pub(crate) fn drawn_script(
     calls: u64,
 ) -> Result<String, AllocError> {
     let mut script = String::new(alloc);
-    for _ in 0..calls {
-        let line = match draws.below(16) {
-            0 | 1 | 2 | 3 => handle_call(alloc, draws)?,
-            4 | 5 => name_call(alloc, draws)?,
-            6 | 7 | 8 => look_call(alloc, draws)?,
-            9 | 10 => size_call(alloc, draws)?,
-            _ => put_call(alloc, draws)?,
-        };
-        script.push_str(line.as_str())?;
-    }
+    add_calls(&mut script, draws, calls)?;
     Ok(script)
+}
+
+// Adds a thread of so many calls.
+fn add_thread(script: &mut String, draws: &mut Draws, calls: u64) -> Result<(), AllocError> {
+    script.push_str("thread\n")?;
+    add_calls(script, draws, calls)
 }
 
 // So many calls of each of two threads.
@@ -121,39 +104,55 @@ pub(crate) fn drawn_threads(
     draws: &mut Draws,
     calls: u64,
 ) -> Result<String, AllocError> {
-    let (one, other) = (
-        drawn_script(alloc, draws, calls)?,
-        drawn_script(alloc, draws, calls)?,
-    );
-    format!(in alloc; "thread\n{one}thread\n{other}")
+    let mut script = String::new(alloc);
+    add_thread(&mut script, draws, calls)?;
+    add_thread(&mut script, draws, calls)?;
+    Ok(script)
 }
+
+// ---- changes of names
+
+// A change of a name, and a look at a directory: of two paths, `1` and `2`.
+const CHANGES: &str =
+    "mkdir 1;list 2,open h 1 wcx;close h,rmdir 1;list 2,unlink 1;stat 2,list /,rename 1 2;list 2,rename 1 2;list 2";
 
 // A path of one to three names of four.
 fn deep_path(alloc: Global, draws: &mut Draws) -> Result<String, AllocError> {
     let mut path = String::new(alloc);
     for _ in 0..draws.below(3) + 1 {
-        let name = match draws.below(4) {
-            0 => "/a",
-            1 => "/b",
-            2 => "/c",
-            _ => "/d",
-        };
-        path.push_str(name)?;
+        path.push_str(one_of(draws, "/a /b /c /d", ' '))?;
     }
     Ok(path)
 }
 
-// A call that changes a name, and one that lists a directory.
-fn change_call(alloc: Global, draws: &mut Draws) -> Result<String, AllocError> {
-    let (one, other) = (deep_path(alloc, draws)?, deep_path(alloc, draws)?);
-    match draws.below(7) {
-        0 => format!(in alloc; "mkdir {one}\nlist {other}\n"),
-        1 => format!(in alloc; "open h {one} wcx\nclose h\n"),
-        2 => format!(in alloc; "rmdir {one}\nlist {other}\n"),
-        3 => format!(in alloc; "unlink {one}\nstat {other}\n"),
-        4 => format!(in alloc; "list /\n"),
-        _ => format!(in alloc; "rename {one} {other}\nlist {other}\n"),
+// Adds the calls of a template with two paths.
+fn add_filled(
+    script: &mut String,
+    template: &str,
+    one: &str,
+    other: &str,
+) -> Result<(), AllocError> {
+    for letter in template.chars() {
+        match letter {
+            '1' => script.push_str(one)?,
+            '2' => script.push_str(other)?,
+            ';' => script.push('\n')?,
+            _ => script.push(letter)?,
+        }
     }
+    script.push('\n')
+}
+
+// Adds a call that changes a name, and one that lists a directory.
+fn add_change(alloc: Global, script: &mut String, draws: &mut Draws) -> Result<(), AllocError> {
+    let one = deep_path(alloc, draws)?;
+    let other = deep_path(alloc, draws)?;
+    add_filled(
+        script,
+        one_of(draws, CHANGES, ','),
+        one.as_str(),
+        other.as_str(),
+    )
 }
 
 // So many changes of names by one thread.
@@ -164,7 +163,7 @@ pub(crate) fn drawn_changes(
 ) -> Result<String, AllocError> {
     let mut script = String::new(alloc);
     for _ in 0..changes {
-        script.push_str(change_call(alloc, draws)?.as_str())?;
+        add_change(alloc, &mut script, draws)?;
     }
     Ok(script)
 }

@@ -4,7 +4,8 @@
 //! remarks say. With `losses every N` a script is run again with a loss after each so many steps, each with five choices of what
 //! the medium has; what is left must be permitted in each of the modes that its option `modes` names. A test has a minute, on a
 //! machine that may be slow: where it would take long, some tests have the same row, and each a part of the losses (`parts`).
-//! `overwrites` has what sync mode alone does, `drawn` scripts that are drawn from a seed.
+//! `overwrites` has what sync mode alone does, `drawn` scripts that are drawn from a seed, `rounds` rounds that end while calls are in
+//! flight, and `seeds` eight threads by forty seeds, and by ten in sync mode.
 //!
 //! What is tested is shown alone. Stands on `split_tables` and `test_kit`.
 #![tactic(auto)]
@@ -23,5 +24,9 @@ mod names;
 mod overwrites;
 #[cfg(test)]
 mod parts;
+#[cfg(test)]
+mod rounds;
+#[cfg(test)]
+mod seeds;
 #[cfg(test)]
 mod writes;

@@ -1,5 +1,5 @@
 //! The option `again`: mounts behind a run that lose their power too.
-use crate::images::{no_files, told};
+use crate::images::{assert_at, done, no_files, told};
 use outside::{Files, MemFiles};
 use split_cases::rows;
 use split_tables::session_told;
@@ -77,44 +77,69 @@ const HOLE: usize = 5;
 const TOLD: &[u8] =
     b"s.0 open x /x wc = fd 0\ns.1 open y /y wc = fd 1\n1.0 write y 62 = count 1\n/ dir\n/x file 0\n/y file 1 62\n";
 
-const STEP: &str = "step g S strict order 0,0,0,1,1,1,1,1,1 cut 11";
-
-// What the hole in the log puts where the first mount has so many steps, and the image that is kept.
-fn hole_at(
+// Whether the hole in the log puts what it has to where the first mount has so many steps. The image is kept.
+fn is_hole(
     alloc: Global,
     files: &mut MemFiles,
     steps: u64,
     choice: &str,
-) -> Result<(Vec<u8>, Vec<u8>), RowError> {
-    let line = format!(in alloc; "{STEP} again {steps} choose {choice} keep h")?;
-    let text = told(alloc, files, line.as_str())?;
-    Ok((text, files.read(alloc, "h")?))
+) -> Result<bool, RowError> {
+    let line = format!(in alloc;
+        "step g S strict order 0,0,0,1,1,1,1,1,1 cut 11 again {steps} choose {choice} keep h"
+    )?;
+    Ok(told(alloc, files, line.as_str())?.as_slice() == TOLD)
 }
 
-// With how many steps the recovery ends before the power goes, where the same is put with each number before it.
-fn recovery_ends(alloc: Global, choice: &str) -> Result<Option<u64>, RowError> {
-    let mut files = no_files(alloc);
-    let script = rows().get(HOLE).ok_or(RowError::Misspelled)?;
+// The script of the hole in the log, and an image.
+fn add_hole(alloc: Global, files: &mut MemFiles) -> Result<(), RowError> {
+    let script = rows().get(HOLE).copied().unwrap_or("");
     files.replace("S", script.as_bytes())?;
-    let _made = told(alloc, &mut files, "mkfs g 64 4 16 16")?;
-    let (_text, whole) = hole_at(alloc, &mut files, 1_000_000, choice)?;
+    done(alloc, files, "mkfs g 64 4 16 16")
+}
+
+// The image that is kept has one more name.
+fn keep_whole(alloc: Global, files: &mut MemFiles) -> Result<(), RowError> {
+    let image = files.read(alloc, "h")?;
+    files.replace("whole", &image)?;
+    Ok(())
+}
+
+// Whether the image that is kept is the whole one.
+fn is_whole(files: &MemFiles) -> bool {
+    files.bytes("h").unwrap_or(b"") == files.bytes("whole").unwrap_or(b"")
+}
+
+// With how many steps the image is the whole one, where the same is put with each number before it; 0 where it is not.
+fn first_whole(alloc: Global, files: &mut MemFiles, choice: &str) -> Result<u64, RowError> {
     for steps in 0..10_000_u64 {
-        let (text, image) = hole_at(alloc, &mut files, steps, choice)?;
-        if text.as_slice() != TOLD {
-            return Ok(None);
+        if !is_hole(alloc, files, steps, choice)? {
+            return Ok(0);
         }
-        if image == whole {
-            return Ok(Some(steps));
+        if is_whole(files) {
+            return Ok(steps);
         }
     }
-    Ok(None)
+    Ok(0)
+}
+
+// Whether the recovery ends before the power goes with some number of steps above 100, where the same is put with each number before it.
+fn ends(alloc: Global, files: &mut MemFiles, choice: &str) -> Result<bool, RowError> {
+    add_hole(alloc, files)?;
+    let _is_hole = is_hole(alloc, files, 1_000_000, choice)?;
+    keep_whole(alloc, files)?;
+    Ok(first_whole(alloc, files, choice)? > 100)
+}
+
+// Likewise over files of its own.
+fn recovery_ends(alloc: Global, choice: &str) -> Result<bool, RowError> {
+    let mut files = no_files(alloc);
+    ends(alloc, &mut files, choice)
 }
 
 #[test]
 fn hole_in_the_log_until_recovery_ends(rt: HostRuntime) -> Result<(), Fail> {
-    for choice in ["oldest", "newest", "7"] {
-        let steps = recovery_ends(rt.alloc(), choice)?;
-        assert!(rt; matches!(steps, Some(steps) if steps > 100), "{choice}");
-    }
+    assert_at(&rt, 0, recovery_ends(rt.alloc(), "oldest")?)?;
+    assert_at(&rt, 1, recovery_ends(rt.alloc(), "newest")?)?;
+    assert_at(&rt, 7, recovery_ends(rt.alloc(), "7")?)?;
     Ok(())
 }

@@ -2,7 +2,7 @@
 //!
 //! They are put together by their places in docs/FORMAT.md. Of 64 blocks and 4 log lines: the log's base from byte 128 on, the journal from
 //! 4,096, inode lines from 20,480, name lines from 24,576, log lines from 28,672, data from 32,768.
-use crate::images::{ALL, CHOICES, fresh, left, number_at, put, steps_of, tree_told};
+use crate::images::{ALL, CHOICES, assert_at, fresh, left, number_at, put, shows, steps_of};
 use pm_lines::Choice;
 use std::alloc::Global;
 use std::test::Fail;
@@ -75,18 +75,37 @@ const BASES: [(u64, u64, bool); 7] = [
     (2 * TOP, 1, true),
 ];
 
+// Whether a mount leaves this base, with its log lines zero or not.
+fn is_base(
+    alloc: Global,
+    image: &[u8],
+    log: usize,
+    lines: usize,
+    base: (u64, bool),
+) -> Result<bool, RowError> {
+    let mounted = left(alloc, image, Choice::Oldest, &[ALL])?;
+    Ok(number_at(&mounted, BASE) == base.0 && is_zero(&mounted, log, lines) == base.1)
+}
+
+// Whether a mount leaves the base behind a base.
+fn is_base_right(alloc: Global, base: u64, after: (u64, bool)) -> Result<bool, RowError> {
+    let image = image_of_base(alloc, base)?;
+    is_base(alloc, &image, LOG, 4, after)
+}
+
+// Whether a base is refused.
+fn is_base_refused(alloc: Global, base: u64) -> Result<bool, RowError> {
+    let image = image_of_base(alloc, base)?;
+    shows(alloc, &image, "splitfs: bad image: rule 11 at 128\n")
+}
+
 #[test]
 fn bases_of_the_log(rt: HostRuntime) -> Result<(), Fail> {
     for (base, after, zero) in BASES {
-        let image = image_of_base(rt.alloc(), base)?;
-        let mounted = left(rt.alloc(), &image, Choice::Oldest, &[ALL])?;
-        assert_eq!(rt; log_of(&mounted), (after, zero), "base {base}");
+        assert_at(&rt, base, is_base_right(rt.alloc(), base, (after, zero))?)?;
     }
-    let beyond = tree_told(rt.alloc(), &image_of_base(rt.alloc(), 2 * TOP + 1)?)?;
-    assert_eq!(rt;
-        beyond.as_slice(),
-        b"splitfs: bad image: rule 11 at 128\n".as_slice()
-    );
+    let beyond = 2 * TOP + 1;
+    assert_at(&rt, beyond, is_base_refused(rt.alloc(), beyond)?)?;
     Ok(())
 }
 
@@ -101,23 +120,24 @@ fn default_of_base(alloc: Global, base: u64) -> Result<Vec<u8>, RowError> {
     Ok(image)
 }
 
+// Whether a mount leaves the base behind a base.
+fn is_default_right(alloc: Global, base: u64, after: (u64, bool)) -> Result<bool, RowError> {
+    let image = default_of_base(alloc, base)?;
+    is_base(alloc, &image, DEFAULT_LOG, 64, after)
+}
+
 #[test]
 fn log_base_restart(rt: HostRuntime) -> Result<(), Fail> {
-    for (base, after, zero) in [(TOP + 65, 1, true), (5, 69, false)] {
-        let image = default_of_base(rt.alloc(), base)?;
-        let mounted = left(rt.alloc(), &image, Choice::Oldest, &[ALL])?;
-        assert_eq!(rt; number_at(&mounted, BASE), after);
-        assert_eq!(rt; is_zero(&mounted, DEFAULT_LOG, 64), zero);
-    }
+    assert_at(
+        &rt,
+        TOP + 65,
+        is_default_right(rt.alloc(), TOP + 65, (1, true))?,
+    )?;
+    assert_at(&rt, 5, is_default_right(rt.alloc(), 5, (69, false))?)?;
     Ok(())
 }
 
 // ---- cut at each step
-
-// Whether an image shows this tree.
-fn shows(alloc: Global, image: &[u8], tree: &str) -> Result<bool, RowError> {
-    Ok(tree_told(alloc, image)?.as_slice() == tree.as_bytes())
-}
 
 // Whether an image shows this tree where its mount is cut at a step, that of what is left at the same step, and the last one is whole.
 fn is_kept_at(
@@ -169,17 +189,36 @@ fn restarts_at(alloc: Global, image: &[u8], choice: Choice, steps: u64) -> Resul
     Ok((base == TOP + 65 || (base == 1 && zero)) && last_zero && (last == 1 || last == 5))
 }
 
-#[test]
-fn log_base_restart_at_each_step(rt: HostRuntime) -> Result<(), Fail> {
-    let image = image_of_base(rt.alloc(), TOP + 65)?;
-    assert!(rt; is_kept(rt.alloc(), &image, "/ dir\n/x dir\n", 1)?);
-    let last = steps_of(rt.alloc(), &image)?;
-    assert!(rt; last > 32, "{last}");
+// Likewise with each choice.
+fn restarts_with_each(alloc: Global, image: &[u8], steps: u64) -> Result<bool, RowError> {
     for choice in CHOICES {
-        for steps in 0..last {
-            assert!(rt; restarts_at(rt.alloc(), &image, choice, steps)?, "{steps}");
+        if !restarts_at(alloc, image, choice, steps)? {
+            return Ok(false);
         }
     }
+    Ok(true)
+}
+
+// Whether a restart is right that is cut at each of its steps, which are more than 32.
+fn restarts(alloc: Global, image: &[u8]) -> Result<bool, RowError> {
+    let last = steps_of(alloc, image)?;
+    for steps in 0..last {
+        if !restarts_with_each(alloc, image, steps)? {
+            return Ok(false);
+        }
+    }
+    Ok(last > 32)
+}
+
+// Whether a restart shows its tree, and is right, at each step.
+fn is_restart_right(alloc: Global) -> Result<bool, RowError> {
+    let image = image_of_base(alloc, TOP + 65)?;
+    Ok(is_kept(alloc, &image, "/ dir\n/x dir\n", 1)? && restarts(alloc, &image)?)
+}
+
+#[test]
+fn log_base_restart_at_each_step(rt: HostRuntime) -> Result<(), Fail> {
+    assert_at(&rt, TOP + 65, is_restart_right(rt.alloc())?)?;
     Ok(())
 }
 
@@ -254,17 +293,31 @@ const ROOM: [(u64, u64, &str); 2] = [
     (4, 50, "/ dir\n/y file 16384 61*16384\n"),
 ];
 
+// Whether so many entries have their room, and show this tree where the mount is cut.
+fn is_room_enough(alloc: Global, entries: u64, staged: u64, tree: &str) -> Result<bool, RowError> {
+    let image = image_of_entries(alloc, entries, staged)?;
+    is_kept(alloc, &image, tree, 7)
+}
+
+// Whether so many entries have not their room.
+fn is_room_short(alloc: Global, entries: u64, staged: u64) -> Result<bool, RowError> {
+    let image = image_of_entries(alloc, entries, staged)?;
+    shows(alloc, &image, "splitfs: bad image: rule 12 at 0\n")
+}
+
 #[test]
 fn live_entries_with_just_their_room(rt: HostRuntime) -> Result<(), Fail> {
     for (entries, staged, tree) in ROOM {
-        let image = image_of_entries(rt.alloc(), entries, staged)?;
-        assert!(rt; is_kept(rt.alloc(), &image, tree, 7)?, "{entries} entries");
-        let short = image_of_entries(rt.alloc(), entries, staged.saturating_add(1))?;
-        let refused = tree_told(rt.alloc(), &short)?;
-        assert_eq!(rt;
-            refused.as_slice(),
-            b"splitfs: bad image: rule 12 at 0\n".as_slice()
-        );
+        assert_at(
+            &rt,
+            entries,
+            is_room_enough(rt.alloc(), entries, staged, tree)?,
+        )?;
+        assert_at(
+            &rt,
+            entries,
+            is_room_short(rt.alloc(), entries, staged.saturating_add(1))?,
+        )?;
     }
     Ok(())
 }

@@ -1,5 +1,5 @@
 //! Each call on files and sink in memory that fails once.
-use crate::images::{no_files, told, words_of};
+use crate::images::{assert_at, done, no_files, words_of};
 use outside::{Files, MemFiles, MemSink};
 use split_tables::answer_over;
 use std::alloc::{AllocError, Global};
@@ -53,23 +53,18 @@ const ROWS: [Row; 13] = [
     ),
 ];
 
-// An image with one directory, `/d`.
-fn image(alloc: Global) -> Result<Vec<u8>, RowError> {
-    let mut files = no_files(alloc);
+// An image with one directory, `/d`, that is kept among files.
+fn image_in(alloc: Global, files: &mut MemFiles) -> Result<Vec<u8>, RowError> {
     files.replace("S", b"mkdir /d\n")?;
-    let _made = told(alloc, &mut files, "mkfs g 64 4 16 16")?;
-    let _ran = told(alloc, &mut files, "step g S strict keep g")?;
+    done(alloc, files, "mkfs g 64 4 16 16")?;
+    done(alloc, files, "step g S strict keep g")?;
     Ok(files.read(alloc, "g")?)
 }
 
-fn add(
-    alloc: Global,
-    list: &mut Vec<(String, Vec<u8>)>,
-    name: &str,
-    bytes: &[u8],
-) -> Result<(), AllocError> {
-    list.push((name.to_string(alloc)?, Vec::from_slice(alloc, bytes)?))?;
-    Ok(())
+// An image with one directory, `/d`.
+fn image(alloc: Global) -> Result<Vec<u8>, RowError> {
+    let mut files = no_files(alloc);
+    image_in(alloc, &mut files)
 }
 
 fn one(alloc: Global, number: u64) -> Result<Vec<u64>, AllocError> {
@@ -78,13 +73,30 @@ fn one(alloc: Global, number: u64) -> Result<Vec<u64>, AllocError> {
     Ok(list)
 }
 
+// A file with this name and these bytes.
+fn file(alloc: Global, name: &str, bytes: &[u8]) -> Result<(String, Vec<u8>), AllocError> {
+    let name = name.to_string(alloc)?;
+    Ok((name, Vec::from_slice(alloc, bytes)?))
+}
+
+// Adds the image `g`, a script `S`, and some bytes `h`.
+fn add_files(
+    alloc: Global,
+    list: &mut Vec<(String, Vec<u8>)>,
+    image: &[u8],
+) -> Result<(), AllocError> {
+    list.push(file(alloc, "g", image)?)?;
+    list.push(file(alloc, "S", b"mkdir /a\n")?)?;
+    list.push(file(alloc, "h", b"old bytes")?)?;
+    Ok(())
+}
+
 // The image `g`, a script `S`, and some bytes `h`; a call of this number fails.
-fn files_of(alloc: Global, image: &[u8], failing: u64) -> Result<MemFiles, RowError> {
+fn files_of(alloc: Global, image: &[u8], failing: u64) -> Result<MemFiles, AllocError> {
+    let failing = one(alloc, failing)?;
     let mut list = Vec::new(alloc);
-    add(alloc, &mut list, "g", image)?;
-    add(alloc, &mut list, "S", b"mkdir /a\n")?;
-    add(alloc, &mut list, "h", b"old bytes")?;
-    Ok(MemFiles::new(alloc, list, one(alloc, failing)?))
+    add_files(alloc, &mut list, image)?;
+    Ok(MemFiles::new(alloc, list, failing))
 }
 
 // Whether just the file of this name, or none, is another than it was.
@@ -125,15 +137,27 @@ fn is_as_told(alloc: Global, image: &[u8], row: &Row) -> Result<bool, RowError> 
     Ok(told.as_slice() == text.as_bytes() && are_as_told(&files, image, changed))
 }
 
+// The first row that is told otherwise, if there is one, counted from 0; else how many there are.
+fn wrong_row(alloc: Global, image: &[u8]) -> Result<u64, RowError> {
+    let mut place: u64 = 0;
+    for row in &ROWS {
+        if !is_as_told(alloc, image, row)? {
+            return Ok(place);
+        }
+        place = place.saturating_add(1);
+    }
+    Ok(place)
+}
+
+// Likewise over an image of its own.
+fn wrong_alone(alloc: Global) -> Result<u64, RowError> {
+    let image = image(alloc)?;
+    wrong_row(alloc, &image)
+}
+
 #[test]
 fn each_call_fails_once(rt: HostRuntime) -> Result<(), Fail> {
-    let image = image(rt.alloc())?;
-    for row in &ROWS {
-        let (command, file_call, put, _text, _changed) = *row;
-        assert!(rt;
-            is_as_told(rt.alloc(), &image, row)?,
-            "{command}: {file_call}, {put}"
-        );
-    }
+    let wrong = wrong_alone(rt.alloc())?;
+    assert_at(&rt, wrong, wrong == 13)?;
     Ok(())
 }

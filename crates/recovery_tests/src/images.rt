@@ -37,19 +37,50 @@ pub(crate) fn told(alloc: Global, files: &mut MemFiles, line: &str) -> Result<Ve
     Ok(answer(alloc, files, &words_of(alloc, line)?)?)
 }
 
+// Does a command over these files.
+pub(crate) fn done(alloc: Global, files: &mut MemFiles, line: &str) -> Result<(), RowError> {
+    let _put = told(alloc, files, line)?;
+    Ok(())
+}
+
+// The image that `mkfs` makes with these numbers among files.
+fn made(alloc: Global, files: &mut MemFiles, numbers: &str) -> Result<Vec<u8>, RowError> {
+    let line = format!(in alloc; "mkfs I {numbers}")?;
+    done(alloc, files, line.as_str())?;
+    Ok(files.read(alloc, "I")?)
+}
+
 // The fresh image with these numbers, which are parted by blanks.
 pub(crate) fn fresh(alloc: Global, numbers: &str) -> Result<Vec<u8>, RowError> {
     let mut files = no_files(alloc);
-    let line = format!(in alloc; "mkfs I {numbers}")?;
-    let _line = told(alloc, &mut files, line.as_str())?;
-    Ok(files.read(alloc, "I")?)
+    made(alloc, &mut files, numbers)
+}
+
+// What `tree` puts for an image that gets a name among files, and then the text of its status.
+fn tree_in(alloc: Global, files: &mut MemFiles, image: &[u8]) -> Result<Vec<u8>, RowError> {
+    files.replace("I", image)?;
+    told(alloc, files, "tree I")
 }
 
 // What `tree` puts for an image, and then the text of its status.
 pub(crate) fn tree_told(alloc: Global, image: &[u8]) -> Result<Vec<u8>, RowError> {
     let mut files = no_files(alloc);
-    files.replace("I", image)?;
-    told(alloc, &mut files, "tree I")
+    tree_in(alloc, &mut files, image)
+}
+
+// Whether that is this text.
+pub(crate) fn shows(alloc: Global, image: &[u8], text: &str) -> Result<bool, RowError> {
+    Ok(tree_told(alloc, image)?.as_slice() == text.as_bytes())
+}
+
+// Asserts that what is told by a number is right.
+pub(crate) fn assert_at(rt: &HostRuntime, number: u64, is_right: bool) -> Result<(), RowError> {
+    if is_right {
+        return Ok(());
+    }
+    let text = number.to_string(rt.alloc())?;
+    let _ = rt.eprintln(text.as_str());
+    Err(RowError::Unlike)
 }
 
 // The image that is left where it is mounted once for each of these numbers of steps.
@@ -66,19 +97,29 @@ pub(crate) fn left(
     }
 }
 
-// How many steps the mount of an image takes: with fewer it leaves another image than with all.
-pub(crate) fn steps_of(alloc: Global, image: &[u8]) -> Result<u64, RowError> {
-    let whole = left(alloc, image, Choice::Oldest, &[ALL])?;
+// Whether a mount of so many steps leaves this image.
+fn leaves(alloc: Global, image: &[u8], steps: u64, whole: &[u8]) -> Result<bool, RowError> {
+    Ok(left(alloc, image, Choice::Oldest, &[steps])?.as_slice() == whole)
+}
+
+// The fewest steps with which the mount of an image leaves what it leaves with all.
+fn fewest(alloc: Global, image: &[u8], whole: &[u8]) -> Result<u64, RowError> {
     let (mut low, mut high) = (0_u64, 65_536_u64);
     for _ in 0..20_u32 {
         let middle = low.midpoint(high);
-        if left(alloc, image, Choice::Oldest, &[middle])? == whole {
+        if leaves(alloc, image, middle, whole)? {
             high = middle;
         } else {
             low = middle.saturating_add(1);
         }
     }
     Ok(high)
+}
+
+// How many steps the mount of an image takes: with fewer it leaves another image than with all.
+pub(crate) fn steps_of(alloc: Global, image: &[u8]) -> Result<u64, RowError> {
+    let whole = left(alloc, image, Choice::Oldest, &[ALL])?;
+    fewest(alloc, image, &whole)
 }
 
 // A number of so many bytes from a place on, little endian, as far as there are such places.

@@ -1,5 +1,5 @@
 //! An image that is cut to each number of blocks, and to a byte less.
-use crate::images::{fresh, tree_told};
+use crate::images::{assert_at, fresh, tree_told};
 use std::alloc::Global;
 use std::test::Fail;
 use test_kit::RowError;
@@ -18,17 +18,31 @@ fn is_told(alloc: Global, image: &[u8], length: usize) -> Result<bool, RowError>
     Ok(text.as_slice() == wanted(alloc, length)?.as_bytes())
 }
 
+// Whether what is told is right of so many blocks, and of a byte less.
+fn are_told(alloc: Global, image: &[u8], blocks: usize) -> Result<bool, RowError> {
+    let length = blocks.saturating_mul(4096);
+    Ok(is_told(alloc, image, length)? && is_told(alloc, image, length.saturating_sub(1))?)
+}
+
+// The first number of blocks of which it is not, if there is one.
+fn wrong_length(alloc: Global, image: &[u8]) -> Result<u64, RowError> {
+    for blocks in 0..65_usize {
+        if !are_told(alloc, image, blocks)? {
+            return Ok(blocks as u64);
+        }
+    }
+    Ok(65)
+}
+
+// Likewise of a fresh image.
+fn wrong_of_fresh(alloc: Global) -> Result<u64, RowError> {
+    let image = fresh(alloc, "64 4 16 16")?;
+    wrong_length(alloc, &image)
+}
+
 #[test]
 fn each_length_of_an_image(rt: HostRuntime) -> Result<(), Fail> {
-    let image = fresh(rt.alloc(), "64 4 16 16")?;
-    assert!(rt; is_told(rt.alloc(), &image, 0)?);
-    for blocks in 1..65_usize {
-        let length = blocks.saturating_mul(4096);
-        assert!(rt; is_told(rt.alloc(), &image, length)?, "{length}");
-        assert!(rt;
-            is_told(rt.alloc(), &image, length.saturating_sub(1))?,
-            "one less than {length}"
-        );
-    }
+    let wrong = wrong_of_fresh(rt.alloc())?;
+    assert_at(&rt, wrong, wrong == 65)?;
     Ok(())
 }

@@ -2,12 +2,12 @@
 ghost use Rattle.std.specs.Prelude.{◌≢◌};
 ghost use Rattle.posix_spec.specs.posix_types.declared.call.Mode.{Mode};
 
-use crate::images::{CHOICES, fresh};
+use crate::images::{CHOICES, assert_at, fresh};
 use command_line::{Options, Status, plain_options};
 use crash_judge::judge;
 use image_layout::Geometry;
 use pm_lines::Choice;
-use posix_spec::{Mode, Shape, root_alone};
+use posix_spec::{Mode, Shape, Tree, root_alone};
 use split_cases::rows;
 use split_tables::{Case, Ran, Stops, run_image};
 use std::alloc::{AllocError, Global};
@@ -101,22 +101,50 @@ fn ran(
     }
 }
 
-// Whether the mode permits what is left.
-fn is_judged(alloc: Global, mode: &str, ran: &Ran) -> Result<bool, RowError> {
-    let start = root_alone(alloc)?;
+// Whether the mode permits what is left behind a tree to begin with.
+fn is_permitted(
+    alloc: Global,
+    mode: &str,
+    shape: Shape,
+    start: &Tree,
+    ran: &Ran,
+) -> Result<bool, RowError> {
     Ok(judge(
         alloc,
         mode_of(mode),
-        shape()?,
-        &start,
+        shape,
+        start,
         &ran.history,
         &ran.unfinished,
         &ran.tree,
     )?)
 }
 
-// How many calls are unfinished at most where the power goes after so many steps, with each choice; none where something is left that
-// the mode forbids.
+// Whether the mode permits what is left.
+fn is_judged(alloc: Global, mode: &str, ran: &Ran) -> Result<bool, RowError> {
+    let shape = shape()?;
+    let start = root_alone(alloc)?;
+    is_permitted(alloc, mode, shape, &start, ran)
+}
+
+// How many calls are unfinished where the power goes after so many steps; none where something is left that the mode forbids.
+fn unfinished_at(
+    alloc: Global,
+    mode: &str,
+    image: &[u8],
+    script: &str,
+    steps: u64,
+    choice: Choice,
+) -> Result<Option<usize>, RowError> {
+    let ran = ran(alloc, mode, image, script, steps, choice)?;
+    Ok(if is_judged(alloc, mode, &ran)? {
+        Some(ran.unfinished.len())
+    } else {
+        None
+    })
+}
+
+// How many they are at most, with each choice.
 fn most_at(
     alloc: Global,
     mode: &str,
@@ -126,58 +154,83 @@ fn most_at(
 ) -> Result<Option<usize>, RowError> {
     let mut most: usize = 0;
     for choice in CHOICES {
-        let ran = ran(alloc, mode, image, script, steps, choice)?;
-        if !is_judged(alloc, mode, &ran)? {
-            return Ok(None);
+        match unfinished_at(alloc, mode, image, script, steps, choice)? {
+            Some(count) => most = most.max(count),
+            None => return Ok(None),
         }
-        most = most.max(ran.unfinished.len());
     }
     Ok(Some(most))
 }
 
-// How many calls are unfinished at most, at one of the losses of a script, the last of which is at the end of the unmount.
-fn most_of(alloc: Global, mode: &str, script: &str, every: u64) -> Result<Option<usize>, RowError> {
-    let image = fresh(alloc, SMALL)?;
-    let case = Case::new(alloc, mode, SMALL, script)?;
-    let stops = Stops::of_all(alloc, &case, 0, every)?;
+// How many they are at most, at one of the losses until the last one.
+fn most_until(
+    alloc: Global,
+    mode: &str,
+    image: &[u8],
+    script: &str,
+    every: u64,
+    last: u64,
+) -> Result<Option<usize>, RowError> {
     let mut most: usize = 0;
     let mut steps: u64 = 0;
     for _ in 0..100_000_u64 {
-        if steps > stops.last {
+        if steps > last {
             return Ok(Some(most));
         }
-        let Some(count) = most_at(alloc, mode, &image, script, steps)? else {
-            return Ok(None);
-        };
-        most = most.max(count);
+        match most_at(alloc, mode, image, script, steps)? {
+            Some(count) => most = most.max(count),
+            None => return Ok(None),
+        }
         steps = steps.saturating_add(every);
     }
     Err(RowError::NotRun)
 }
 
+// The last loss of a script, which is at the end of the unmount.
+fn last_stop(alloc: Global, mode: &str, script: &str, every: u64) -> Result<u64, RowError> {
+    let case = Case::new(alloc, mode, SMALL, script)?;
+    Ok(Stops::of_all(alloc, &case, 0, every)?.last)
+}
+
+// Whether each of the losses of a script leaves what the mode permits, and one of them so many calls unfinished.
+fn is_right(
+    alloc: Global,
+    mode: &str,
+    script: &str,
+    every: u64,
+    unfinished: usize,
+) -> Result<bool, RowError> {
+    let last = last_stop(alloc, mode, script, every)?;
+    let image = fresh(alloc, SMALL)?;
+    match most_until(alloc, mode, &image, script, every, last)? {
+        Some(most) => Ok(most >= unfinished),
+        None => Ok(false),
+    }
+}
+
+// Whether those of a row are right.
+fn is_row_right(alloc: Global, row: &Row) -> Result<bool, RowError> {
+    let (mode, place, every, unfinished) = *row;
+    let script = rows().get(place).copied().unwrap_or("");
+    is_right(alloc, mode, script, every, unfinished)
+}
+
 #[test]
 fn losses_with_the_calls_of_the_machine(rt: HostRuntime) -> Result<(), Fail> {
-    for (mode, place, every, unfinished) in ROWS {
-        let script = rows().get(place).copied().unwrap_or("");
-        let most = most_of(rt.alloc(), mode, script, every)?;
-        assert!(rt;
-            matches!(most, Some(most) if most >= unfinished),
-            "{mode}: worked run {place}"
-        );
+    for row in &ROWS {
+        assert_at(&rt, row.1 as u64, is_row_right(rt.alloc(), row)?)?;
     }
     Ok(())
 }
 
 #[test]
 fn losses_while_a_file_is_busy(rt: HostRuntime) -> Result<(), Fail> {
-    let most = most_of(rt.alloc(), "strict", TWO_WRITES, 13)?;
-    assert!(rt; matches!(most, Some(most) if most >= 1));
+    assert_at(&rt, 1, is_right(rt.alloc(), "strict", TWO_WRITES, 13, 1)?)?;
     Ok(())
 }
 
 #[test]
 fn losses_while_two_writes_finish_in_place(rt: HostRuntime) -> Result<(), Fail> {
-    let most = most_of(rt.alloc(), "sync", TWO_FRONTS, 31)?;
-    assert!(rt; matches!(most, Some(most) if most >= 2));
+    assert_at(&rt, 2, is_right(rt.alloc(), "sync", TWO_FRONTS, 31, 2)?)?;
     Ok(())
 }

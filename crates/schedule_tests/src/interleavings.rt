@@ -2,11 +2,11 @@
 //!
 //! A write takes six events: Begin, Fill, Claim, Store, Persist, Finish. Behind Persist it is on the medium, and behind Store
 //! where the medium has all words of its entry: with `newest`, and not where it has those of even or of odd numbers alone.
-use crate::telling::otherwise;
+use crate::telling::{assert_none, otherwise};
 use split_tables::{CHOICES, Case, left_by_cut};
 use std::alloc::{AllocError, Global};
 use std::test::Fail;
-use test_kit::RowError;
+use test_kit::{RowError, number, word};
 
 const IMAGE: &str = "64 4 16 16";
 
@@ -20,6 +20,19 @@ thread
 write y 62
 ";
 
+// Two threads append by two handles of one file, twice each.
+const ONE_FILE: &str = "\
+setup
+open a /f wac
+open b /f wac
+thread
+write a 616263
+write a 616263
+thread
+write b 7879
+write b 7879
+";
+
 // How many events each of the two threads has, and both.
 const EACH: u32 = 6;
 
@@ -28,37 +41,58 @@ const BOTH: u32 = 12;
 // How many tests have each a part of the orders.
 const PARTS: u32 = 4;
 
-// Which thread a number picks at a place: each bit is a pick.
-fn pick(order: u32, place: u32) -> u32 {
-    order.checked_shr(place).unwrap_or(0) & 1
+// The orders of the four writes of `ONE_FILE`, by their threads.
+const TURNS: [&str; 6] = ["0011", "0101", "0110", "1001", "1010", "1100"];
+
+// An order in which two threads are picked.
+#[derive(Clone, Copy)]
+enum Order {
+    // Of the twelve events of `TWO_FILES`: each bit is a pick.
+    Events(u32),
+    // Of the four writes of `ONE_FILE`: while one is in flight its file is busy, and the other thread waits.
+    Writes(&'static str),
 }
 
-// The words of an order.
-fn words_of(alloc: Global, order: u32) -> Result<String, AllocError> {
-    let mut words = "order ".to_string(alloc)?;
+// ---- two files
+
+// Which thread a number picks at a place.
+fn pick(bits: u32, place: u32) -> u32 {
+    bits.checked_shr(place).unwrap_or(0) & 1
+}
+
+// What a place adds to the words of an order of events.
+fn word_at(bits: u32, place: u32) -> &'static str {
+    match (place, pick(bits, place)) {
+        (0, 0) => "order 0",
+        (0, _) => "order 1",
+        (_, 0) => ",0",
+        _ => ",1",
+    }
+}
+
+// The words of an order of events.
+fn words_of_events(alloc: Global, bits: u32) -> Result<String, AllocError> {
+    let mut words = String::new(alloc);
     for place in 0..BOTH {
-        if place > 0 {
-            words.push(',')?;
-        }
-        words.push(if pick(order, place) == 0 { '0' } else { '1' })?;
+        words.push_str(word_at(bits, place))?;
     }
     Ok(words)
 }
 
 // How many of the first events are those of thread 1.
-fn ones(order: u32, events: u32) -> u32 {
+fn ones(bits: u32, events: u32) -> u32 {
     let mut count: u32 = 0;
     for place in 0..events {
-        count = count.saturating_add(pick(order, place));
+        count = count.saturating_add(pick(bits, place));
     }
     count
 }
 
 // Whether behind so many events thread 0 comes to its end first. Orders that begin alike are cut alike, and of them one does so.
-fn is_first(order: u32, events: u32) -> bool {
+fn is_first(bits: u32, events: u32) -> bool {
     let mut is_rising = true;
     for place in events..BOTH - 1 {
-        is_rising = is_rising && pick(order, place) <= pick(order, place + 1);
+        is_rising = is_rising && pick(bits, place) <= pick(bits, place + 1);
     }
     is_rising
 }
@@ -81,93 +115,186 @@ fn has_line(tree: &str, line: &str) -> bool {
     tree.lines().any(|it| it == line)
 }
 
-// Whether what an order leaves that is cut behind so many events is right.
-fn is_left(
-    alloc: Global,
-    case: &Case,
-    order: u32,
-    events: u32,
-    choice: &str,
-) -> Result<bool, RowError> {
-    let one = ones(order, events);
+// Whether so many calls that returned, and a tree, are right behind so many events of an order of them.
+fn is_shown(bits: u32, events: u32, choice: &str, returned: usize, tree: &str) -> bool {
+    let one = ones(bits, events);
     let zero = events.saturating_sub(one);
     let done = 2 + usize::from(zero == EACH) + usize::from(one == EACH);
-    // The set-up has two events.
-    let Some((returned, tree)) = left_by_cut(
-        alloc,
-        case,
-        u64::from(events).saturating_add(2),
-        choice,
-    )?
-    else {
-        return Ok(false);
-    };
-    let (x, y) = (
-        has_line(tree.as_str(), "/x file 1 61"),
-        has_line(tree.as_str(), "/y file 1 62"),
-    );
-    Ok(returned == done && is_right(x, zero, choice) && is_right(y, one, choice))
+    returned == done
+        && is_right(has_line(tree, "/x file 1 61"), zero, choice)
+        && is_right(has_line(tree, "/y file 1 62"), one, choice)
 }
 
-// The first loss of an order that is wrong.
-fn fault_of_cuts(alloc: Global, case: &Case, order: u32) -> Result<Option<String>, RowError> {
-    for events in 0..BOTH + 1 {
-        if is_first(order, events) {
-            for choice in CHOICES {
-                if !is_left(alloc, case, order, events, choice)? {
-                    return Ok(Some(format!(in alloc; "cut {events} choose {choice}")?));
-                }
-            }
+// ---- one file
+
+// What a write adds to the words of an order of writes: its thread is picked six times, and before each time the other one, which
+// waits while it is in flight. So the first pick of a write is that of its thread alone.
+fn word_of_turn(is_first: bool, turn: char) -> &'static str {
+    match (is_first, turn) {
+        (true, '0') => "order 0,1,0,1,0,1,0,1,0,1,0",
+        (true, _) => "order 1,0,1,0,1,0,1,0,1,0,1",
+        (_, '0') => ",0,1,0,1,0,1,0,1,0,1,0",
+        _ => ",1,0,1,0,1,0,1,0,1,0,1",
+    }
+}
+
+// The words of an order of writes.
+fn words_of_writes(alloc: Global, turns: &str) -> Result<String, AllocError> {
+    let mut words = String::new(alloc);
+    for turn in turns.chars() {
+        words.push_str(word_of_turn(words.is_empty(), turn))?;
+    }
+    Ok(words)
+}
+
+// What a write of a thread appends.
+fn bytes_of(turn: char) -> &'static [u8] {
+    match turn {
+        '0' => b"616263",
+        _ => b"7879",
+    }
+}
+
+// Whether data are those of so many of the writes.
+fn are_bytes_of(turns: &str, writes: usize, data: &[u8]) -> bool {
+    let mut at: usize = 0;
+    for turn in turns.chars().take(writes) {
+        let bytes = bytes_of(turn);
+        if !data.get(at..).unwrap_or(b"").starts_with(bytes) {
+            return false;
+        }
+        at = at.saturating_add(bytes.len());
+    }
+    at == data.len()
+}
+
+// Whether a line `LENGTH DATA` of the file has its length.
+fn has_length(file: &str) -> bool {
+    match number(word(file, 0)) {
+        Ok(number) => number == (word(file, 1).len() / 2) as u64,
+        Err(_) => false,
+    }
+}
+
+// Whether the file of a tree has so many of the writes.
+fn has_writes(tree: &str, turns: &str, writes: usize) -> bool {
+    for line in tree.lines() {
+        if let Some(file) = line.strip_prefix("/f file ") {
+            return has_length(file) && are_bytes_of(turns, writes, word(file, 1).as_bytes());
         }
     }
-    Ok(None)
+    false
 }
 
-// A script with an order.
-fn case_of(alloc: Global, script: &str, words: String) -> Result<Case, RowError> {
-    Case::ordered(alloc, "strict", IMAGE, script, words.as_str())
+// Whether so many calls that returned, and a tree, are right behind so many events of the four writes.
+fn are_writes_shown(turns: &str, events: u32, choice: &str, returned: usize, tree: &str) -> bool {
+    let (done, stage) = ((events / EACH) as usize, events % EACH);
+    let is_there = done < 4 && has_writes(tree, turns, done.saturating_add(1));
+    let is_whole = is_there || has_writes(tree, turns, done);
+    returned == done.saturating_add(2) && is_whole && is_right(is_there, stage, choice)
 }
 
-// What is wrong with the run of a script.
-fn fault_of_run(alloc: Global, case: &Case) -> Result<Option<String>, RowError> {
-    if case.runs_as_told(alloc)? {
-        return Ok(None);
+// ---- each order
+
+impl Order {
+    // The script with the words of the order.
+    fn case(self, alloc: Global) -> Result<Case, RowError> {
+        let (script, words) = match self {
+            Order::Events(bits) => (TWO_FILES, words_of_events(alloc, bits)?),
+            Order::Writes(turns) => (ONE_FILE, words_of_writes(alloc, turns)?),
+        };
+        Case::ordered(alloc, "strict", IMAGE, script, words.as_str())
     }
-    Ok(Some("the run answers otherwise".to_string(alloc)?))
-}
 
-// What is wrong with the run of an order, or with its losses.
-fn fault_of_all(alloc: Global, case: &Case, order: u32) -> Result<Option<String>, RowError> {
-    if let Some(fault) = fault_of_run(alloc, case)? {
-        return Ok(Some(fault));
+    // How many events the threads have.
+    fn events(self) -> u32 {
+        match self {
+            Order::Events(_) => BOTH,
+            Order::Writes(_) => 4 * EACH,
+        }
     }
-    fault_of_cuts(alloc, case, order)
+
+    // Whether it is cut behind so many events.
+    fn is_cut(self, events: u32) -> bool {
+        match self {
+            Order::Events(bits) => is_first(bits, events),
+            Order::Writes(_) => true,
+        }
+    }
+
+    // Whether so many calls that returned, and a tree, are right where it is cut behind so many events.
+    fn is_shown(self, events: u32, choice: &str, returned: usize, tree: &str) -> bool {
+        match self {
+            Order::Events(bits) => is_shown(bits, events, choice, returned, tree),
+            Order::Writes(turns) => are_writes_shown(turns, events, choice, returned, tree),
+        }
+    }
+
+    // Whether what it leaves that is cut behind so many events is right.
+    fn is_left(
+        self,
+        alloc: Global,
+        case: &Case,
+        events: u32,
+        choice: &str,
+    ) -> Result<bool, RowError> {
+        // The set-up has two events.
+        let cut = u64::from(events).saturating_add(2);
+        match left_by_cut(alloc, case, cut, choice)? {
+            Some((returned, tree)) => Ok(self.is_shown(events, choice, returned, tree.as_str())),
+            None => Ok(false),
+        }
+    }
+
+    // Likewise with each choice.
+    fn is_left_with_each(self, alloc: Global, case: &Case, events: u32) -> Result<bool, RowError> {
+        for choice in CHOICES {
+            if !self.is_left(alloc, case, events, choice)? {
+                return Ok(false);
+            }
+        }
+        Ok(true)
+    }
+
+    // Whether each of its losses is right.
+    fn are_cuts_right(self, alloc: Global, case: &Case) -> Result<bool, RowError> {
+        for events in 0..self.events().saturating_add(1) {
+            if self.is_cut(events) && !self.is_left_with_each(alloc, case, events)? {
+                return Ok(false);
+            }
+        }
+        Ok(true)
+    }
+
+    // Whether its run and its losses are right.
+    fn is_case_right(self, alloc: Global, case: &Case) -> Result<bool, RowError> {
+        Ok(case.runs_as_told(alloc)? && self.are_cuts_right(alloc, case)?)
+    }
+
+    // Whether it goes right.
+    fn is_right(self, alloc: Global) -> Result<bool, RowError> {
+        let case = self.case(alloc)?;
+        self.is_case_right(alloc, &case)
+    }
 }
 
-// What is wrong with an order.
-fn fault_of_order(alloc: Global, order: u32) -> Result<Option<String>, RowError> {
-    let case = case_of(alloc, TWO_FILES, words_of(alloc, order)?)?;
-    fault_of_all(alloc, &case, order)
-}
-
-// Asserts that a part of the 924 orders goes right.
-fn assert_orders(rt: &HostRuntime, part: u32) -> Result<(), Fail> {
+// The first order of a part that goes wrong, if there is one; or 4,096 where the orders of all parts are not 924.
+fn wrong_order(alloc: Global, part: u32) -> Result<Option<u64>, RowError> {
     let mut count: u32 = 0;
-    for order in 0..4096_u32 {
-        if order.count_ones() == EACH {
-            if count % PARTS == part {
-                if let Some(fault) = fault_of_order(rt.alloc(), order)? {
-                    let text = format!(in rt.alloc(); "order {order}: {fault}")?;
-                    return Err(otherwise(rt, text.as_str()).into());
-                }
+    for bits in 0..4096_u32 {
+        if bits.count_ones() == EACH {
+            if count % PARTS == part && !Order::Events(bits).is_right(alloc)? {
+                return Ok(Some(u64::from(bits)));
             }
             count = count.saturating_add(1);
         }
     }
-    if count != 924 {
-        return Err(otherwise(rt, "not all orders were tried").into());
-    }
-    Ok(())
+    Ok(if count == 924 { None } else { Some(4096) })
+}
+
+// Asserts that a part of the 924 orders goes right.
+fn assert_orders(rt: &HostRuntime, part: u32) -> Result<(), Fail> {
+    assert_none(rt, wrong_order(rt.alloc(), part)?)
 }
 
 #[test]
@@ -190,113 +317,11 @@ fn last_part_of_the_orders(rt: HostRuntime) -> Result<(), Fail> {
     assert_orders(&rt, 3)
 }
 
-// Two threads append by two handles of one file, twice each.
-const ONE_FILE: &str = "\
-setup
-open a /f wac
-open b /f wac
-thread
-write a 616263
-write a 616263
-thread
-write b 7879
-write b 7879
-";
-
-// The orders of the four writes: while one is in flight its file is busy, and the other thread waits.
-const TURNS: [[u32; 4]; 6] = [
-    [0, 0, 1, 1],
-    [0, 1, 0, 1],
-    [0, 1, 1, 0],
-    [1, 0, 0, 1],
-    [1, 0, 1, 0],
-    [1, 1, 0, 0],
-];
-
-// The words of an order of writes: the thread of each is picked six times, and before each time the other one, which waits while
-// it is in flight. So the first pick of a write is that of its thread alone.
-fn words_of_turns(alloc: Global, turns: &[u32; 4]) -> Result<String, AllocError> {
-    let mut words = "order ".to_string(alloc)?;
-    for turn in turns {
-        if words.len() > 6 {
-            words.push(',')?;
-        }
-        let other = 1_u32.saturating_sub(*turn);
-        write!(&mut words, "{turn}")?;
-        for _event in 1..EACH {
-            write!(&mut words, ",{other},{turn}")?;
-        }
-    }
-    Ok(words)
-}
-
-// The line of the file that has so many of the writes.
-fn line_of(alloc: Global, turns: &[u32; 4], writes: u64) -> Result<String, RowError> {
-    let mut bytes = String::new(alloc);
-    let mut length: u32 = 0;
-    for turn in turns.iter().take(writes as usize) {
-        let (text, more) = if *turn == 0 {
-            ("616263", 3)
-        } else {
-            ("7879", 2)
-        };
-        bytes.push_str(text)?;
-        length = length.saturating_add(more);
-    }
-    let line = format!(in alloc; "/f file {length} {bytes}")?;
-    Ok(line.trim_end().to_string(alloc)?)
-}
-
-// Whether what is left behind so many events of the four writes is right.
-fn is_left_of_turns(
-    alloc: Global,
-    case: &Case,
-    turns: &[u32; 4],
-    events: u64,
-    choice: &str,
-) -> Result<bool, RowError> {
-    let (done, stage) = (events / 6, events % 6);
-    let Some((returned, tree)) = left_by_cut(alloc, case, events.saturating_add(2), choice)? else {
-        return Ok(false);
-    };
-    let more = line_of(alloc, turns, done.saturating_add(1))?;
-    let is_there = done < 4 && has_line(tree.as_str(), more.as_str());
-    let line = line_of(alloc, turns, done)?;
-    let is_whole = is_there || has_line(tree.as_str(), line.as_str());
-    let all = done.saturating_add(2) as usize;
-    Ok(returned == all && is_whole && is_right(is_there, stage as u32, choice))
-}
-
-// What is wrong with the run of an order of the four writes, or with its losses.
-fn fault_of_all_turns(
-    alloc: Global,
-    case: &Case,
-    turns: &[u32; 4],
-) -> Result<Option<String>, RowError> {
-    if let Some(fault) = fault_of_run(alloc, case)? {
-        return Ok(Some(fault));
-    }
-    for events in 0..25 {
-        for choice in CHOICES {
-            if !is_left_of_turns(alloc, case, turns, events, choice)? {
-                return Ok(Some(format!(in alloc; "cut {events} choose {choice}")?));
-            }
-        }
-    }
-    Ok(None)
-}
-
-// What is wrong with an order of the four writes.
-fn fault_of_turns(alloc: Global, turns: &[u32; 4]) -> Result<Option<String>, RowError> {
-    let case = case_of(alloc, ONE_FILE, words_of_turns(alloc, turns)?)?;
-    fault_of_all_turns(alloc, &case, turns)
-}
-
 #[test]
 fn two_threads_append_by_two_handles(rt: HostRuntime) -> Result<(), Fail> {
-    for turns in &TURNS {
-        if let Some(fault) = fault_of_turns(rt.alloc(), turns)? {
-            return Err(otherwise(&rt, fault.as_str()).into());
+    for turns in TURNS {
+        if !Order::Writes(turns).is_right(rt.alloc())? {
+            return Err(otherwise(&rt, turns).into());
         }
     }
     Ok(())

@@ -5,7 +5,7 @@ use Rattle.std.proofs.lemmas.Option.{same_Some}
 use Rattle.posix_types.specs.declared.item.Item.{Item}
 use Rattle.posix_types.specs.Scripts.{Scripts}
 use Rattle.posix_types.specs.declared.call.Who.{Who}
-use Rattle.crash_spec.specs.Orders.{none_picked, Order}
+use Rattle.run_laws.specs.crash_spec.Orders.{none_picked, Order}
 use Rattle.schedule.specs.declared.picks.Picker.{Picker}
 use Rattle.schedule.specs.Picking.{IsSoFar}
 use Rattle.run_laws.specs.file_calls.declared.names.outcomes.NoMemory.{NoMemory}

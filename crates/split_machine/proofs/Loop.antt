@@ -1,7 +1,7 @@
 -- The loop of a run: from one turn to the next, and its ends.
 use Rattle.std.specs.Prelude.{◌≡◌, ◌≢◌, ◌<◌, ◌+◌, ℕ, Option, Some, None, refl}
 use Rattle.std.proofs.Common.{arith, sym, subst}
-use Rattle.crash_spec.specs.Orders.{none_picked, Order}
+use Rattle.run_laws.specs.crash_spec.Orders.{none_picked, Order}
 use Rattle.schedule.specs.declared.picks.Picker.{Picker}
 use Rattle.schedule.specs.Picking.{IsSoFar}
 use Rattle.run_laws.specs.pm_model.Powers.{Supply}

@@ -3,10 +3,10 @@ use Rattle.std.specs.Prelude.{◌≡◌, ◌⊎◌, ◌<◌, ◌+◌, ◌^◌, �
 use Rattle.std.specs.List.{range_with_len}
 use Rattle.std.proofs.Common.{arith, ap, ◌∙◌, sym, subst, inl, inr}
 use Rattle.posix_types.specs.declared.call.Who.{Who}
-use Rattle.crash_spec.specs.Orders as meaning
-use Rattle.crash_spec.specs.Machine.{Event, Setting}
-use Rattle.crash_spec.specs.Orders.{Order, Picks}
-use Rattle.crash_spec.specs.Schedules.{caller_of, can_run, Course, runnable}
+use Rattle.run_laws.specs.crash_spec.Orders as meaning
+use Rattle.run_laws.specs.crash_spec.Machine.{Event, Setting}
+use Rattle.run_laws.specs.crash_spec.Orders.{Order, Picks}
+use Rattle.run_laws.specs.crash_spec.Schedules.{caller_of, can_run, Course, runnable}
 use Rattle.schedule.specs.declared.picks.Picker.{Picker}
 use Rattle.schedule.specs.Picking.{IsSoFar, PicksNext}
 use Rattle.run_laws.specs.pm_model.Powers.{Steps, Supply}

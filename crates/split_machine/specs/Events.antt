@@ -2,9 +2,9 @@
 use Rattle.std.specs.Prelude.{◌≡◌, ◌≢◌, ◌⊎◌, ◌<◌, ◌+◌, ℕ, Bool, true, false, List, [], ◌∷◌, ◌++◌, length, filter, Option, Some, None, IsSome, Contains}
 use Rattle.std.specs.List.{insert, range_with_len}
 use Rattle.posix_types.specs.declared.call.Who.{Who}
-use Rattle.crash_spec.specs.Machine.{LacksSpace, Machine, Setting, unfinished_of}
-use Rattle.crash_spec.specs.Orders.{Order}
-use Rattle.crash_spec.specs.Schedules.{Course}
+use Rattle.run_laws.specs.crash_spec.Machine.{LacksSpace, Machine, Setting, unfinished_of}
+use Rattle.run_laws.specs.crash_spec.Orders.{Order}
+use Rattle.run_laws.specs.crash_spec.Schedules.{Course}
 use Rattle.schedule.specs.declared.picks.Picker.{Picker}
 use Rattle.schedule.specs.Picking.{IsSoFar}
 use Rattle.run_laws.specs.posix_spec.Scripted.{IsComplete}

@@ -1,6 +1,6 @@
 -- How a run goes, and how it ends.
 use Rattle.std.specs.Prelude.{◌≡◌, ◌≢◌, ◌+◌, ◌^◌, ℕ, true, false, [], Option, Some, None, IsSome, Ok}
-use Rattle.crash_spec.specs.Orders.{Order}
+use Rattle.run_laws.specs.crash_spec.Orders.{Order}
 use Rattle.schedule.specs.declared.picks.Picker.{Picker}
 use Rattle.run_laws.specs.pm_model.Powers.{is_on, Steps, Supply}
 use Rattle.run_laws.specs.posix_spec.Scripted.{IsComplete}

@@ -108,7 +108,7 @@ pub(crate) fn begin_event(
 }
 
 /// The next event of a caller that can run: of its job, if it has one out, or its next call begins.
-pub(crate) fn caller_event(
+pub fn caller_event(
     world: &mut World,
     alloc: Global,
     out: &mut Out,

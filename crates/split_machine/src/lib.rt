@@ -20,7 +20,12 @@ mod runs;
 mod work;
 
 pub use course_laws::a_round_goes_beside;
+pub use events::caller_event;
+pub use outstanding::{Acted, Out, place_of};
+pub use rounds::open_round;
 pub use run_laws::{KSplit, NoMemory};
-pub use runs::run;
+pub use runs::{crash, run};
 pub use schedule::Order;
-pub use split_world::{Ended, MountFault, World, a_remount_shows_the_same, mount};
+pub use split_world::{
+    Begun, Crashed, Ended, Finished, MountFault, Ready, World, a_remount_shows_the_same, mount,
+};

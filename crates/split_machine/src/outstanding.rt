@@ -15,15 +15,15 @@ use std::alloc::{AllocError, Global};
 /// The log of the round, if one goes on, and the logged calls that have not finished, in the order of their
 /// beginning.
 #[derive(Drop)]
-pub(crate) struct Out {
-    pub(crate) log: Option<RoundLog>,
-    pub(crate) jobs: Vec<Held>,
+pub struct Out {
+    pub log: Option<RoundLog>,
+    pub jobs: Vec<Held>,
 }
 
 /// How an event ended: it is done; a call found too little space, so that the round is over, which is no event; or the
 /// power went.
 #[derive(Clone, Copy)]
-pub(crate) enum Acted {
+pub enum Acted {
     Event,
     RoundOver,
     PowerLost,
@@ -79,7 +79,7 @@ fn is_same(one: Who, other: Who) -> bool
 
 /// The place of the job of a caller, if it has one out.
 #[tactic(auto, using(crate::proofs::Found::none_more, crate::proofs::Found::none_there, crate::proofs::Found::found_there))]
-pub(crate) fn place_of(jobs: &[Held], who: Who) -> Option<usize>
+pub fn place_of(jobs: &[Held], who: Who) -> Option<usize>
     ensures some { IfSome result (λ place. (h : held.Held) × (slice_get jobs.now place ≡ Some h) × (h.who ≡ who)) }
     ensures none { IfNone result ((i : ℕ) (h : held.Held) → slice_get jobs.now i ≡ Some h → h.who ≢ who) }
 {

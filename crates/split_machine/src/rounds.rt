@@ -11,7 +11,7 @@ use split_world::World;
 use std::alloc::Global;
 
 /// The lines go out, if they are at home.
-pub(crate) fn open_round(world: &mut World, alloc: Global, out: &mut Out) -> Result<(), NoMemory>
+pub fn open_round(world: &mut World, alloc: Global, out: &mut Out) -> Result<(), NoMemory>
     requires { Between world.old (seen out.old) }
     ensures { IfOk result (λ done. IsOpen world.old (seen out.old) world.new (seen out.new)) }
 {

@@ -1,6 +1,6 @@
 //! A run of the scripts.
 ghost use Rattle.std.specs.Prelude.{◌≡◌, ◌≢◌, IfOk, Some, false, true};
-ghost use Rattle.crash_spec.specs.Orders.{none_picked, Order as MeantOrder};
+ghost use Rattle.run_laws.specs.crash_spec.Orders.{none_picked, Order as MeantOrder};
 ghost use Rattle.schedule.specs.Picking.{IsSoFar};
 ghost use Rattle.schedule.specs.Seen.{seen_order};
 ghost use Rattle.course_laws.specs.Runs.{IsFirst};
@@ -91,8 +91,8 @@ fn run_events(
     }
 }
 
-// What a power loss leaves of a World with what is out of it.
-fn crash(alloc: Global, world: World, out: Out, power: &Power) -> Result<Ended, NoMemory>
+/// What a power loss leaves of a World with what is out of it.
+pub fn crash(alloc: Global, world: World, out: Out, power: &Power) -> Result<Ended, NoMemory>
     requires { CanCrash world (seen out) }
     ensures { IfOk result (IsCrashed world power.now power.now) }
 {

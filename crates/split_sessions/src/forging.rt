@@ -6,9 +6,9 @@
 use crate::commands::answer;
 use crate::entries::{put_entry, put_number};
 use outside::{Files, MemFiles};
-use posix_spec::{Data, Name, Path, Tree, TreeEntry, TreeNode, root_alone};
+use posix_spec::{Data, Name, Path, TreeEntry, TreeNode, root_alone};
 use std::alloc::{AllocError, Global};
-use test_kit::{Draws, RowError, number, shown_tree};
+use test_kit::{Draws, RowError, number, shown_tree, word};
 
 const INODES: usize = 20_480;
 
@@ -47,27 +47,40 @@ fn put_node(bytes: &mut [u8], ino: u64, kind: u64, chain: u64, first: u64, count
     put_number(bytes, block.saturating_add(24), 4, count);
 }
 
+// A file with its name, a letter.
+fn put_file(bytes: &mut [u8], file: u64) {
+    let ino = file.saturating_add(5);
+    let (chain, first) = (
+        file.saturating_add(36),
+        file.saturating_mul(2).saturating_add(39),
+    );
+    put_node(bytes, ino, 2, chain, first, 2);
+    let line = NAMES.saturating_add((file as usize).saturating_mul(64));
+    put_number(bytes, line.saturating_add(4), 4, ino);
+    put_number(bytes, line.saturating_add(8), 1, 1);
+    put_number(bytes, line.saturating_add(16), 1, file.saturating_add(97));
+}
+
+// A block is full of a byte.
+fn fill_block(bytes: &mut [u8], block: u64, byte: u64) {
+    let start = (block as usize).saturating_mul(4096);
+    for at in 0..4096_usize {
+        put_number(bytes, start.saturating_add(at), 1, byte);
+    }
+}
+
 // The nodes: the staging files 1 to 4, and the files 5 to 7 with their names. Data blocks are filled.
 fn put_nodes(bytes: &mut [u8], draws: &mut Draws) {
     for staging in 1..5_u64 {
         put_node(bytes, staging, 3, 7 + staging, 6 + 6 * staging, 6);
     }
     for file in 0..3_u64 {
-        put_node(bytes, 5 + file, 2, 36 + file, 39 + 2 * file, 2);
-        let line = NAMES.saturating_add((file as usize).saturating_mul(64));
-        put_number(bytes, line.saturating_add(4), 4, 5 + file);
-        put_number(bytes, line.saturating_add(8), 1, 1);
-        put_number(bytes, line.saturating_add(16), 1, 97 + file);
+        put_file(bytes, file);
     }
     // Blocks 36 to 38 are the files' chain blocks.
     for block in 12..45_u64 {
-        if block >= 36 && block < 39 {
-            continue;
-        }
-        let byte = draws.wide_below(256);
-        let start = (block as usize).saturating_mul(4096);
-        for at in 0..4096_usize {
-            put_number(bytes, start.saturating_add(at), 1, byte);
+        if block < 36 || block >= 39 {
+            fill_block(bytes, block, draws.wide_below(256));
         }
     }
 }
@@ -99,63 +112,105 @@ fn drawn_base(draws: &mut Draws) -> u64 {
     }
 }
 
-// An entry that is live, in this slot, and what the file has by it; or one of the file's generation before.
-fn add_entry(forged: &mut Forged, base: u64, slot: u64, draws: &mut Draws) {
-    let place = LOG.saturating_add((slot as usize).saturating_mul(64));
-    let file = draws.wide_below(3);
-    let staging = draws.wide_below(4);
-    let count = draws.wide_below(2).saturating_add(1);
-    let block = draws.wide_below(3);
-    let size = draws.wide_below(16_385);
-    let Some(used) = forged.staged.get_mut(staging as usize) else {
+// What is drawn of an entry: a file and a staging file, each counted from 0, the first block and how many, and the length.
+#[derive(Clone, Copy)]
+struct Drawn {
+    file: u64,
+    staging: u64,
+    count: u64,
+    block: u64,
+    size: u64,
+}
+
+fn drawn_entry(draws: &mut Draws) -> Drawn {
+    Drawn {
+        file: draws.wide_below(3),
+        staging: draws.wide_below(4),
+        count: draws.wide_below(2).saturating_add(1),
+        block: draws.wide_below(3),
+        size: draws.wide_below(16_385),
+    }
+}
+
+impl Drawn {
+    // The numbers of its entry, with this sequence number and order, of this generation of its file, from this block of its staging
+    // file on.
+    fn numbers(&self, sequence: u64, order: u64, generation: u64, from: u64) -> [u64; 10] {
+        let staging = self.staging.saturating_add(1);
+        [
+            sequence,
+            order,
+            self.file.saturating_add(5),
+            generation,
+            self.block,
+            self.count,
+            staging,
+            from,
+            staging,
+            self.size,
+        ]
+    }
+}
+
+impl Found {
+    // The file has what an entry says, from this block of a staging file on.
+    fn take(&mut self, drawn: &Drawn, from: u64) {
+        self.applied = self.applied.saturating_add(1);
+        self.size = drawn.size;
+        let first = drawn
+            .staging
+            .saturating_mul(6)
+            .saturating_add(12)
+            .saturating_add(from);
+        for at in 0..drawn.count {
+            if let Some(there) = self.blocks.get_mut(drawn.block.saturating_add(at) as usize) {
+                *there = first.saturating_add(at);
+            }
+        }
+    }
+}
+
+// An entry that is live, with this sequence number, at this place, and what the file has by it; or one of the file's generation
+// before.
+fn add_entry(forged: &mut Forged, drawn: &Drawn, sequence: u64, place: usize, draws: &mut Draws) {
+    let Some(used) = forged.staged.get_mut(drawn.staging as usize) else {
         return;
     };
-    let Some(found) = forged.files.get_mut(file as usize) else {
+    let Some(found) = forged.files.get_mut(drawn.file as usize) else {
         return;
     };
     let from = *used;
-    if from.saturating_add(count) > 6 {
+    let end = from.saturating_add(drawn.count);
+    if end > 6 {
         return;
     }
     let is_old = draws.wide_below(5) == 0;
+    let generation = drawn.file.saturating_add(if is_old { 4 } else { 5 });
     let order = found.applied.saturating_add(1);
-    let generation = if is_old {
-        file.saturating_add(4)
-    } else {
-        file.saturating_add(5)
-    };
-    let numbers = [
-        base.saturating_add(slot),
-        order,
-        file.saturating_add(5),
-        generation,
-        block,
-        count,
-        staging.saturating_add(1),
-        from,
-        staging.saturating_add(1),
-        size,
-    ];
+    let numbers = drawn.numbers(sequence, order, generation, from);
     put_entry(&mut forged.bytes, place, &numbers);
-    if is_old {
-        return;
+    if !is_old {
+        *used = end;
+        found.take(drawn, from);
+        forged.live = forged.live.saturating_add(1);
     }
-    *used = from.saturating_add(count);
-    found.applied = order;
-    found.size = size;
-    for at in 0..count {
-        if let Some(there) = found.blocks.get_mut(block.saturating_add(at) as usize) {
-            *there = staging
-                .saturating_mul(6)
-                .saturating_add(12)
-                .saturating_add(from)
-                .saturating_add(at);
-        }
-    }
-    forged.live = forged.live.saturating_add(1);
 }
 
-// An image over a fresh one, with entries in about half of the slots, in an order that is drawn.
+// Entries in about half of the slots, in an order that is drawn: an odd step goes once through all 16 slots.
+fn add_entries(forged: &mut Forged, base: u64, draws: &mut Draws) {
+    let step = draws.wide_below(8).saturating_mul(2).saturating_add(1);
+    let mut slot = draws.wide_below(16);
+    for _ in 0..16 {
+        if draws.wide_below(2) == 0 {
+            let place = LOG.saturating_add((slot as usize).saturating_mul(64));
+            let drawn = drawn_entry(draws);
+            add_entry(forged, &drawn, base.saturating_add(slot), place, draws);
+        }
+        slot = slot.saturating_add(step) % 16;
+    }
+}
+
+// An image over a fresh one, with entries.
 fn forge(fresh: Vec<u8>, draws: &mut Draws) -> Forged {
     let mut bytes = fresh;
     put_nodes(&mut bytes, draws);
@@ -173,32 +228,25 @@ fn forge(fresh: Vec<u8>, draws: &mut Draws) -> Forged {
         staged: [0; 4],
         live: 0,
     };
-    // An odd step goes once through all 16 slots.
-    let step = draws.wide_below(8).saturating_mul(2).saturating_add(1);
-    let mut slot = draws.wide_below(16);
-    for _ in 0..16 {
-        if draws.wide_below(2) == 0 {
-            add_entry(&mut forged, base, slot, draws);
-        }
-        slot = slot.saturating_add(step) % 16;
-    }
+    add_entries(&mut forged, base, draws);
     forged
+}
+
+// The byte that is to be found at a place of a file.
+fn byte_at(image: &[u8], found: &Found, at: u64) -> u8 {
+    let block = found.blocks.get((at / 4096) as usize).copied().unwrap_or(0);
+    if block == 0 {
+        return 0;
+    }
+    let place = block.saturating_mul(4096).saturating_add(at % 4096);
+    image.get(place as usize).copied().unwrap_or(0)
 }
 
 // The bytes that are to be found in a file.
 fn bytes_of(alloc: Global, image: &[u8], found: &Found) -> Result<Vec<u8>, AllocError> {
     let mut bytes = Vec::new(alloc);
     for at in 0..found.size {
-        let block = found.blocks.get((at / 4096) as usize).copied().unwrap_or(0);
-        let place = (block as usize)
-            .saturating_mul(4096)
-            .saturating_add((at % 4096) as usize);
-        let byte = if block == 0 {
-            0
-        } else {
-            image.get(place).copied().unwrap_or(0)
-        };
-        bytes.push(byte)?;
+        bytes.push(byte_at(image, found, at))?;
     }
     Ok(bytes)
 }
@@ -215,31 +263,95 @@ fn entry_of(alloc: Global, letter: u8, bytes: Vec<u8>) -> Result<TreeEntry, Allo
     })
 }
 
-// The text of the tree that is to be found.
-fn tree_of(alloc: Global, forged: &Forged) -> Result<String, RowError> {
-    let Tree { mut entries } = root_alone(alloc)?;
+// Adds the entries of the files that are to be found.
+fn add_found(
+    alloc: Global,
+    entries: &mut Vec<TreeEntry>,
+    forged: &Forged,
+) -> Result<(), AllocError> {
     let mut letter = b'a';
     for found in &forged.files {
         let bytes = bytes_of(alloc, &forged.bytes, found)?;
         entries.push(entry_of(alloc, letter, bytes)?)?;
         letter = letter.saturating_add(1);
     }
-    shown_tree(alloc, &Tree { entries })
+    Ok(())
 }
 
-// Whether the image shows the tree, and shows it again after a run of nothing; of which the image is kept.
+// The text of the tree that is to be found.
+fn tree_of(alloc: Global, forged: &Forged) -> Result<String, RowError> {
+    let mut tree = root_alone(alloc)?;
+    add_found(alloc, &mut tree.entries, forged)?;
+    shown_tree(alloc, &tree)
+}
+
+// Whether an image shows a tree.
+fn shows(alloc: Global, files: &mut MemFiles, name: &str, tree: &str) -> Result<bool, RowError> {
+    Ok(answer(alloc, files, &["tree", name])?.as_slice() == tree.as_bytes())
+}
+
+// A run of nothing on the image, of which the image is kept.
+fn mount(alloc: Global, files: &mut MemFiles) -> Result<(), RowError> {
+    let words = ["step", "forged", "stat", "strict", "keep", "mounted"];
+    let _ran = answer(alloc, files, &words)?;
+    Ok(())
+}
+
+// Whether the image shows the tree, and shows it again after a run of nothing.
+fn is_shown(alloc: Global, files: &mut MemFiles, tree: &str) -> Result<bool, RowError> {
+    mount(alloc, files)?;
+    Ok(shows(alloc, files, "forged", tree)? && shows(alloc, files, "mounted", tree)?)
+}
+
+// Whether a forged image shows what is to be found in it.
 fn is_kept(alloc: Global, files: &mut MemFiles, forged: &Forged) -> Result<bool, RowError> {
-    let tree = tree_of(alloc, forged)?;
     files.replace("forged", &forged.bytes)?;
+    let tree = tree_of(alloc, forged)?;
+    is_shown(alloc, files, tree.as_str())
+}
+
+// How many live entries forged images have, and how many of them show what is to be found in them.
+#[derive(Clone, Copy)]
+struct Counts {
+    live: u64,
+    kept: u64,
+}
+
+// One more image is forged, and counted.
+fn count_one(
+    alloc: Global,
+    files: &mut MemFiles,
+    draws: &mut Draws,
+    counts: &mut Counts,
+) -> Result<(), RowError> {
+    let forged = forge(files.read(alloc, "fresh")?, draws);
+    counts.live = counts.live.saturating_add(forged.live);
+    if is_kept(alloc, files, &forged)? {
+        counts.kept = counts.kept.saturating_add(1);
+    }
+    Ok(())
+}
+
+// So many images from a seed are forged, and counted.
+fn counts_of(
+    alloc: Global,
+    files: &mut MemFiles,
+    seed: u64,
+    count: u64,
+) -> Result<Counts, RowError> {
+    let mut draws = Draws::new(seed);
+    let mut counts = Counts { live: 0, kept: 0 };
+    for _ in 0..count {
+        count_one(alloc, files, &mut draws, &mut counts)?;
+    }
+    Ok(counts)
+}
+
+// A fresh image, and a script that does nothing.
+fn put_fresh(alloc: Global, files: &mut MemFiles) -> Result<(), RowError> {
     files.replace("stat", b"stat /a\n")?;
-    let shown = answer(alloc, files, &["tree", "forged"])?;
-    let _ran = answer(
-        alloc,
-        files,
-        &["step", "forged", "stat", "strict", "keep", "mounted"],
-    )?;
-    let again = answer(alloc, files, &["tree", "mounted"])?;
-    Ok(shown.as_slice() == tree.as_bytes() && again.as_slice() == tree.as_bytes())
+    let _made = answer(alloc, files, &["mkfs", "fresh", "96", "16", "16", "16"])?;
+    Ok(())
 }
 
 // `SEED COUNT`: so many images from this seed; how many live entries they have, and how many of them show, before and after a
@@ -249,22 +361,11 @@ pub(crate) fn forged_told(
     files: &mut MemFiles,
     words: &str,
 ) -> Result<Vec<u8>, RowError> {
-    let (seed, count) = words.split_once(" ").ok_or(RowError::Misspelled)?;
-    let (seed, count) = (number(seed)?, number(count)?);
-    let mut draws = Draws::new(seed);
-    let _made = answer(alloc, files, &["mkfs", "fresh", "96", "16", "16", "16"])?;
-    let mut live = 0_u64;
-    let mut kept = 0_u64;
-    for _ in 0..count {
-        let fresh = files.read(alloc, "fresh")?;
-        let forged = forge(fresh, &mut draws);
-        live = live.saturating_add(forged.live);
-        if is_kept(alloc, files, &forged)? {
-            kept = kept.saturating_add(1);
-        }
-    }
+    let (seed, count) = (number(word(words, 0))?, number(word(words, 1))?);
+    put_fresh(alloc, files)?;
+    let Counts { live, kept } = counts_of(alloc, files, seed, count)?;
     let text = format!(in alloc;
         "{count} forged images with {live} live entries: {kept} are kept\n"
     )?;
-    Ok(Vec::from_slice(alloc, text.as_bytes())?)
+    Ok(text.into_bytes())
 }

@@ -1,6 +1,6 @@
 //! Sessions: commands over the same files, one after another, and edits of these files between them.
 use crate::commands::{answer, answer_over};
-use crate::edits::{copy, set, was_edit};
+use crate::edits::{change, copy, was_edit};
 use crate::forging::forged_told;
 use outside::{Files, MemFiles, MemSink};
 use std::alloc::{AllocError, Global};
@@ -125,7 +125,7 @@ fn damage_told(alloc: Global, files: &mut MemFiles, line: &str) -> Result<Vec<u8
     let (name, edits) = line.split_once(" ").ok_or(RowError::Misspelled)?;
     copy(alloc, files, name, DAMAGED)?;
     for edit in edits.split(" ; ") {
-        set(alloc, files, DAMAGED, edit)?;
+        change(alloc, files, "set", DAMAGED, edit)?;
     }
     Ok(answer(alloc, files, &["tree", DAMAGED])?)
 }
@@ -158,17 +158,31 @@ fn wanted(
     Ok(printed_lines(alloc, want)?.into_bytes())
 }
 
-// Whether a line with an answer has that answer; a line without one is an edit.
-fn is_as_wanted(alloc: Global, files: &mut MemFiles, line: &str) -> Result<bool, RowError> {
-    let Some((command, want)) = asked(line) else {
-        let first = word(line, 0);
-        if first == "#" || first == "row" || was_edit(alloc, files, line)? {
-            return Ok(true);
-        }
-        return Err(RowError::Misspelled);
-    };
+// Whether a command has this answer.
+fn is_answer(
+    alloc: Global,
+    files: &mut MemFiles,
+    command: &str,
+    want: &str,
+) -> Result<bool, RowError> {
     let came = came(alloc, files, command)?;
     Ok(came == wanted(alloc, files, command, want)?)
+}
+
+// Whether a line without an answer is a remark, the name of the row, or an edit, which is carried out.
+fn is_done(alloc: Global, files: &mut MemFiles, line: &str) -> Result<bool, RowError> {
+    match word(line, 0) {
+        "#" | "row" => Ok(true),
+        _ => was_edit(alloc, files, line),
+    }
+}
+
+// Whether a line with an answer has that answer, and one without is done.
+fn is_as_wanted(alloc: Global, files: &mut MemFiles, line: &str) -> Result<bool, RowError> {
+    match asked(line) {
+        Some((command, want)) => is_answer(alloc, files, command, want),
+        None => is_done(alloc, files, line),
+    }
 }
 
 // The first line of a session that is answered otherwise.

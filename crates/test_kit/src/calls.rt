@@ -1,9 +1,9 @@
 //! Reads the calls of rows.
 use crate::faults::RowError;
 use crate::printed::spelled;
-use posix_spec::{Call, Who};
-use script_text::{ScriptFault, read_script};
-use std::alloc::{AllocError, Global};
+use crate::threads::scripts_of;
+use posix_spec::{Call, Scripts, Who};
+use std::alloc::Global;
 
 /// Who makes the call of a line, and the line without that.
 pub fn caller(line: &str) -> Result<(Who, &str), RowError> {
@@ -17,14 +17,14 @@ pub fn caller(line: &str) -> Result<(Who, &str), RowError> {
     }
 }
 
+// The last call of the last thread.
+fn last_call(scripts: &mut Scripts) -> Option<Call> {
+    let mut list = scripts.threads.pop()?;
+    list.calls.pop()
+}
+
 /// The call that a line of a row spells.
 pub fn read_call(alloc: Global, line: &str) -> Result<Call, RowError> {
-    match read_script(alloc, spelled(alloc, line)?.as_bytes()) {
-        Ok(mut scripts) => match scripts.threads.pop() {
-            Some(mut list) => list.calls.pop().ok_or(RowError::Misspelled),
-            None => Err(RowError::Misspelled),
-        },
-        Err(ScriptFault::NoMemory) => Err(RowError::NoMemory(AllocError)),
-        Err(ScriptFault::Bad { .. }) => Err(RowError::Misspelled),
-    }
+    let mut scripts = scripts_of(alloc, &spelled(alloc, line)?)?;
+    last_call(&mut scripts).ok_or(RowError::Misspelled)
 }

@@ -1,10 +1,11 @@
 //! Why a row of a table gave no answer.
 use outside::FileFault;
 use std::alloc::AllocError;
+use std::fmt;
 use thiserror::Error;
 
 /// Why a row of a table gave no answer.
-#[derive(Debug, Drop, Error)]
+#[derive(Drop, Error)]
 pub enum RowError {
     /// No memory was left.
     #[error(transparent)]
@@ -40,4 +41,11 @@ pub enum RowError {
         /// The block, inode line, name line or file block that breaks it.
         place: u64,
     },
+}
+
+// It is shown as it is printed.
+impl fmt::Debug for RowError {
+    fn fmt<W: fmt::Write>(&self, f: &mut fmt::Formatter<W>) -> fmt::Result {
+        fmt::Display::fmt(self, f)
+    }
 }

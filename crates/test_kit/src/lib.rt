@@ -8,7 +8,7 @@
 //! and between empty lines: `do NAME` stands for them. `for WORD ..: LINE` stands for that line, or for the lines of `do
 //! NAME`, with each of the words in the place of `#`, and `for N to M: ..` likewise with numbers.
 //!
-//! `table_told` tells how each row of a table went, and `assert_rows` asserts that each went `ok`. Calls are read by
+//! `row_told` tells how a row went by the answers to its lines, which a `Text` puts together; `table_told` tells how each row of a table went, and `assert_rows` asserts that each went `ok`. Calls are read by
 //! `read_script`, and replies and trees are printed by `history_text` and `tree_text`, which are tried so. `read_history` finds
 //! the calls of a printed history of several threads, and `next_calls` those that come behind it, one of each caller at most.
 //! `Draws` draws numbers from a seed. A row that gives no answer ends with a `RowError`. Nothing here is claimed by a contract,
@@ -20,6 +20,7 @@ mod draws;
 mod faults;
 mod printed;
 mod tables;
+mod texts;
 mod threads;
 mod trees;
 mod unfolding;
@@ -29,5 +30,6 @@ pub use draws::Draws;
 pub use faults::RowError;
 pub use printed::{printed_call, printed_lines, shown_items, shown_tree, spelled};
 pub use tables::{asked, assert_rows, number, option, small_number, table_told, word};
+pub use texts::{Text, row_told, text_told};
 pub use threads::{count_of, next_calls, place_of, read_history, scripts_of};
 pub use trees::read_tree;

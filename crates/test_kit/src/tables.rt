@@ -1,5 +1,6 @@
 //! Tables, their rows and the lines of these.
 use crate::faults::RowError;
+use crate::texts::Text;
 use crate::unfolding::unfolded;
 use std::alloc::Global;
 
@@ -41,6 +42,54 @@ pub fn asked(line: &str) -> Option<(&str, &str)> {
     }
 }
 
+// What is told of a row of a table.
+fn row_answer<F: Fn(Global, &str) -> Result<String, RowError>>(
+    alloc: Global,
+    table: &str,
+    row: &str,
+    tell: &F,
+) -> Result<String, RowError>
+    requires { F.IsAlwaysCallable tell.now }
+{
+    let lines = unfolded(alloc, table, row)?;
+    tell(alloc, &lines)
+}
+
+// Adds the name of a row, and what is told of it; nothing of a part that is no row.
+fn put_row<F: Fn(Global, &str) -> Result<String, RowError>>(
+    text: &mut Text,
+    alloc: Global,
+    table: &str,
+    row: &str,
+    tell: &F,
+) -> Result<(), RowError>
+    requires { F.IsAlwaysCallable tell.now }
+{
+    if let Some(name) = option(row, "row") {
+        let told = row_answer(alloc, table, row, tell)?;
+        text.put(name);
+        text.put(": ");
+        text.put(&told);
+        text.put("\n");
+    }
+    Ok(())
+}
+
+// Adds how the rows of a table went.
+fn put_rows<F: Fn(Global, &str) -> Result<String, RowError>>(
+    text: &mut Text,
+    alloc: Global,
+    table: &str,
+    tell: &F,
+) -> Result<(), RowError>
+    requires { F.IsAlwaysCallable tell.now }
+{
+    for row in table.split("\n\n") {
+        put_row(text, alloc, table, row, tell)?;
+    }
+    Ok(())
+}
+
 /// How the rows of a table went: for each its name and what is told of it, on a line.
 pub fn table_told<F: Fn(Global, &str) -> Result<String, RowError>>(
     alloc: Global,
@@ -49,15 +98,22 @@ pub fn table_told<F: Fn(Global, &str) -> Result<String, RowError>>(
 ) -> Result<String, RowError>
     requires { F.IsAlwaysCallable tell.now }
 {
-    let mut text = String::new(alloc);
-    for row in table.split("\n\n") {
-        if let Some(name) = option(row, "row") {
-            let told = tell(alloc, unfolded(alloc, table, row)?.as_str())?;
-            let line = format!(in alloc; "{name}: {told}\n")?;
-            text.push_str(line.as_str())?;
+    let mut text = Text::new(alloc);
+    put_rows(&mut text, alloc, table, tell)?;
+    text.end()
+}
+
+// How many rows a table has by what is told of it, and how many went `ok`.
+fn row_counts(told: &str) -> (usize, usize) {
+    let mut all: usize = 0;
+    let mut right: usize = 0;
+    for line in told.lines() {
+        all = all.saturating_add(1);
+        if line.ends_with(": ok") {
+            right = right.saturating_add(1);
         }
     }
-    Ok(text)
+    (all, right)
 }
 
 /// Asserts that a table has so many rows, and that of each it is told that it went `ok`.
@@ -70,8 +126,7 @@ pub fn assert_rows<R: Eprint + AllocGlobal, F: Fn(Global, &str) -> Result<String
     requires { F.IsAlwaysCallable tell.now }
 {
     let told = table_told(rt.alloc(), table, tell)?;
-    let all = told.lines().count();
-    let right = told.lines().filter(|line| line.ends_with(": ok")).count();
+    let (all, right) = row_counts(&told);
     if all == count && right == count {
         return Ok(());
     }

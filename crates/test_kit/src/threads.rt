@@ -35,6 +35,19 @@ fn call_at(scripts: &Scripts, who: Who, number: u32) -> Option<&Call> {
     }
 }
 
+// Adds the call of a printed line, by its caller and number.
+fn add_printed(
+    calls: &mut Vec<(Who, Call)>,
+    scripts: &Scripts,
+    line: &str,
+) -> Result<(), RowError> {
+    let (who, number) = place_of(line)?;
+    match call_at(scripts, who, number) {
+        Some(call) => Ok(calls.push((who, call.clone()?))?),
+        None => Err(RowError::Misspelled),
+    }
+}
+
 /// The calls of a printed history, by the callers and the numbers in its lines, in their order. Lines of a tree are passed over.
 pub fn read_history(
     alloc: Global,
@@ -44,9 +57,7 @@ pub fn read_history(
     let mut calls = Vec::new(alloc);
     for line in text.lines() {
         if !line.starts_with('/') {
-            let (who, number) = place_of(line)?;
-            let call = call_at(scripts, who, number).ok_or(RowError::Misspelled)?;
-            calls.push((who, call.clone()?))?;
+            add_printed(&mut calls, scripts, line)?;
         }
     }
     Ok(calls)

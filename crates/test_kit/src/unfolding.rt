@@ -1,91 +1,119 @@
 //! Lines of rows that stand for several: those of a name, and those of each of some words.
 use crate::faults::RowError;
 use crate::tables::{number, option};
+use crate::texts::Text;
 use std::alloc::Global;
 
-// The lines of a table that have a name.
-fn named<'a>(table: &'a str, name: &str) -> Result<&'a str, RowError> {
+// The lines of a table that have a name; none where no part has it.
+fn named<'a>(table: &'a str, name: &str) -> &'a str {
     for part in table.split("\n\n") {
         match option(part, "lines") {
-            Some(found) if found == name => return Ok(part),
+            Some(found) if found == name => return part,
             _ => {}
         }
     }
-    Err(RowError::Misspelled)
+    ""
 }
 
 // Adds a line with a word in the place of each `#`.
-fn add_line(text: &mut String, line: &str, word: &str) -> Result<(), RowError> {
+fn put_line(text: &mut Text, line: &str, word: &str) {
     let mut is_first = true;
     for part in line.split('#') {
         if !is_first {
-            text.push_str(word)?;
+            text.put(word);
         }
         is_first = false;
-        text.push_str(part)?;
+        text.put(part);
     }
-    text.push('\n')?;
-    Ok(())
+    text.put("\n");
 }
 
 // Adds the lines that have a name, with a word in the place of each `#`.
-fn add_named(text: &mut String, table: &str, name: &str, word: &str) -> Result<(), RowError> {
-    for line in named(table, name)?.lines() {
+fn put_named(text: &mut Text, table: &str, name: &str, word: &str) {
+    let lines = named(table, name);
+    if lines.is_empty() {
+        text.misspell();
+    }
+    for line in lines.lines() {
         if !line.starts_with('#') && !line.starts_with("lines ") {
-            add_line(text, line, word)?;
+            put_line(text, line, word);
         }
     }
-    Ok(())
 }
 
 // Adds what is done for a word: a line, or the lines of `do NAME`.
-fn add_done(text: &mut String, table: &str, what: &str, word: &str) -> Result<(), RowError> {
+fn put_done(text: &mut Text, table: &str, what: &str, word: &str) {
     match what.split_once(' ') {
-        Some(("do", name)) => add_named(text, table, name, word),
-        _ => add_line(text, what, word),
+        Some(("do", name)) => put_named(text, table, name, word),
+        _ => put_line(text, what, word),
     }
 }
 
+// The digits of a number.
+fn digits(alloc: Global, number: u64) -> Result<String, RowError> {
+    let mut text = Text::new(alloc);
+    text.put_number(number);
+    text.end()
+}
+
 // Adds what is done for each number of a range.
-fn add_numbered(
+fn put_numbered(
+    text: &mut Text,
     alloc: Global,
-    text: &mut String,
     table: &str,
     what: &str,
     first: u64,
     last: u64,
 ) -> Result<(), RowError> {
     for number in first..last.saturating_add(1) {
-        let word = format!(in alloc; "{number}")?;
-        add_done(text, table, what, word.as_str())?;
+        put_done(text, table, what, &digits(alloc, number)?);
     }
     Ok(())
 }
 
-// Adds `WORDS: WHAT` for each of the words, or for each number of `FIRST to LAST`.
-fn add_each(alloc: Global, text: &mut String, table: &str, rest: &str) -> Result<(), RowError> {
-    let (words, what) = rest.split_once(": ").ok_or(RowError::Misspelled)?;
+// Adds what is done for each of some words, or for each number of `FIRST to LAST`.
+fn put_words(
+    text: &mut Text,
+    alloc: Global,
+    table: &str,
+    words: &str,
+    what: &str,
+) -> Result<(), RowError> {
     if let Some((first, last)) = words.split_once(" to ") {
-        return add_numbered(alloc, text, table, what, number(first)?, number(last)?);
+        return put_numbered(text, alloc, table, what, number(first)?, number(last)?);
     }
     for word in words.split(' ') {
-        add_done(text, table, what, word)?;
+        put_done(text, table, what, word);
+    }
+    Ok(())
+}
+
+// Adds `WORDS: WHAT`.
+fn put_each(text: &mut Text, alloc: Global, table: &str, rest: &str) -> Result<(), RowError> {
+    match rest.split_once(": ") {
+        Some((words, what)) => put_words(text, alloc, table, words, what),
+        None => Err(RowError::Misspelled),
+    }
+}
+
+// Adds a line, or those that it stands for.
+fn put_unfolded(text: &mut Text, alloc: Global, table: &str, line: &str) -> Result<(), RowError> {
+    match line.split_once(' ') {
+        Some(("do", name)) => put_named(text, table, name, ""),
+        Some(("for", rest)) => return put_each(text, alloc, table, rest),
+        _ => {
+            text.put(line);
+            text.put("\n");
+        }
     }
     Ok(())
 }
 
 // The lines of a row of a table, with those that `do` and `for` stand for in their places.
 pub(crate) fn unfolded(alloc: Global, table: &str, row: &str) -> Result<String, RowError> {
-    let mut text = String::new(alloc);
+    let mut text = Text::new(alloc);
     for line in row.lines() {
-        match line.split_once(' ') {
-            Some(("do", name)) => add_named(&mut text, table, name, "")?,
-            Some(("for", rest)) => add_each(alloc, &mut text, table, rest)?,
-            _ => {
-                text.push_str(line)?;
-                text.push('\n')?;
-            }
-        }
+        put_unfolded(&mut text, alloc, table, line)?;
     }
-    Ok(text)
+    text.end()
 }

@@ -1,0 +1,2 @@
+mod AfterLoss
+mod UnderWay

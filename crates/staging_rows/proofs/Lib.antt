@@ -1,2 +1,0 @@
-pub mod CalmLaws
-pub mod Homes

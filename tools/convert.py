@@ -54,6 +54,7 @@ class Converter(Processes):
         """Converts a whole trace."""
         self.born(calls)
         for call in calls:
+            self.record.line = call.line
             try:
                 self.take(call)
             except Differs as error:

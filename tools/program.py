@@ -3,6 +3,8 @@
 from __future__ import annotations
 
 import concurrent.futures
+import functools
+import hashlib
 import os
 import subprocess
 import sys
@@ -14,6 +16,8 @@ from dataclasses import dataclass
 TOP = os.path.dirname(os.path.dirname(os.path.abspath(__file__)))
 WRAPPER = f"{TOP}/splitfs"
 BUILT = f"{TOP}/crates/splitfs/out/splitfs"
+# The modes that the program runs by now.
+MODES = ("strict", "sync")
 CHOICES = ("oldest", "newest", "even", "odd", "1")
 # How many runs are begun before the first of them is looked at.
 BATCH = 1024
@@ -37,8 +41,9 @@ class Outcome:
 
 
 def outcome_of(text: str) -> Outcome:
-    """Parts what is printed: the calls come first, and the tree begins with the line of the root."""
-    lines = text.splitlines()
+    """Parts what is printed: the calls come first, and the tree begins with the line of the root. Outcomes share their lines, of which
+    each may be long and stand in a thousand of them."""
+    lines = [sys.intern(line) for line in text.splitlines()]
     root = next(at for at, line in enumerate(lines) if line.startswith("/ "))
     return Outcome(tuple(lines[:root]), tuple(lines[root:]))
 
@@ -122,21 +127,28 @@ class Script:
         return are halved at once, by as many runs as there are jobs."""
         count = len(self.whole.calls)
         parts, found = [(0, self.returned(0), end, count)], {}
-        progress = Progress("explore", "calls whose return is found")
+        most = sum(min(2**depth, count) for depth in range(end.bit_length()))
+        progress, done = Progress("explore", "runs that look for the returns of calls"), 0
         while parts:
-            halved = [(low, before, (low + high) // 2, high, behind) for low, before, high, behind in parts]
-            counts = self.pool.map(self.returned, [middle for _, _, middle, _, _ in halved])
-            parts = []
-            for (low, before, middle, high, behind), half in zip(halved, counts):
-                for part in ((low, before, middle, half), (middle, half, high, behind)):
-                    if part[1] == part[3]:
-                        continue
-                    if part[2] - part[0] <= 1:
-                        found.update((number, part[2]) for number in range(part[1] + 1, part[3] + 1))
-                    else:
-                        parts.append(part)
-            progress.tell(count if not parts else min(len(found), count - 1), count)
+            middles = [(low + high) // 2 for low, _, high, _ in parts]
+            counts = []
+            for returned in self.pool.map(self.returned, middles):
+                counts.append(returned)
+                progress.tell(min(done + len(counts), most - 1), most)
+            done += len(counts)
+            halves = [half for part in zip(parts, middles, counts) for half in halves_of(*part)]
+            for low, before, high, behind in halves:
+                if high - low <= 1:
+                    found.update((number, high) for number in range(before + 1, behind + 1))
+            parts = [part for part in halves if part[2] - part[0] > 1]
+        progress.tell(most, most)
         return [found.get(number, 0) for number in range(1, count + 1)]
+
+
+def halves_of(part: tuple[int, int, int, int], middle: int, returned: int) -> list[tuple[int, int, int, int]]:
+    """Parts a range of steps, told with how many calls returned at its ends, in the middle. Returns the halves in which one returned."""
+    low, before, high, behind = part
+    return [it for it in ((low, before, middle, returned), (middle, returned, high, behind)) if it[1] != it[3]]
 
 
 def first_that_holds(holds: Callable[[int], bool], low: int) -> int:
@@ -161,17 +173,18 @@ class Found:
 
     @staticmethod
     def of(script: Script, stops: Iterable[int]) -> Found:
-        """Runs the script with each of the stops and each choice."""
+        """Runs the script with each of the stops and each choice. Of what was printed before a digest is kept alone."""
         found, known = Found(sorted(set(stops)), script), {}
         asked = [(choice, stop) for stop in found.stops for choice in CHOICES]
         progress = Progress("explore", "runs")
         for start in range(0, len(asked), BATCH):
             batch = asked[start : start + BATCH]
             for done, (key, text) in enumerate(zip(batch, script.pool.map(lambda it: script.stopped(it[1], it[0]), batch)), 1):
-                if text not in known:
-                    known[text] = len(found.outcomes)
+                digest = hashlib.sha256(text.encode()).digest()
+                if digest not in known:
+                    known[digest] = len(found.outcomes)
                     found.outcomes.append(outcome_of(text))
-                found.numbers[key] = known[text]
+                found.numbers[key] = known[digest]
                 progress.tell(start + done, len(asked))
         return found
 
@@ -189,7 +202,15 @@ class Found:
                 spans.append((place, place + 1, number))
         return spans
 
+    @functools.cached_property
+    def ranges(self) -> dict[tuple[str, int], list[str]]:
+        """The stops that lead to an outcome by a choice, as ranges of the stops that were tried."""
+        ranges: dict[tuple[str, int], list[str]] = {}
+        for choice in CHOICES:
+            for place, behind, number in self.spans(choice):
+                low, high = self.stops[place], self.stops[behind - 1]
+                ranges.setdefault((choice, number), []).append(str(low) if low == high else f"{low} to {high}")
+        return ranges
+
     def steps(self, choice: str, number: int) -> str:
-        """Returns the stops that lead to an outcome, as ranges of the stops that were tried."""
-        ranges = [(self.stops[low], self.stops[high - 1]) for low, high, it in self.spans(choice) if it == number]
-        return ", ".join(str(low) if low == high else f"{low} to {high}" for low, high in ranges)
+        return ", ".join(self.ranges.get((choice, number), []))

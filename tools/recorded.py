@@ -20,24 +20,24 @@ class Refusal(Exception):
 @dataclass(frozen=True)
 class Call:
     """A call of a script, and the reply of Linux, in which `?` stands for what the trace does not tell. What the program had put
-    on its standard output since the call before is `said`."""
+    on its standard output since the call before is `said`; the line of the trace is 0 where none made it."""
 
     text: str
     reply: str
     said: str = ""
+    line: int = 0
 
 
 @dataclass
 class Record:
-    """The calls so far, the model behind them, and what was left out: each call and reason, and how often."""
+    """The calls so far, the model behind them, and what was left out: each call and reason, and how often. The line is that of the
+    call of the trace that is converted now."""
 
     model: Model = field(default_factory=Model)
     calls: list[Call] = field(default_factory=list)
     left_out: Counter[tuple[str, str]] = field(default_factory=Counter)
     said: str = ""
-    most_blocks: int = 0
-    most_nodes: int = 1
-    most_names: int = 0
+    line: int = 0
 
     def leave_out(self, call: str, why: str) -> None:
         self.left_out[call, why] += 1
@@ -48,20 +48,10 @@ class Record:
             made = self.model.apply(text)
             if made != reply and "?" not in (made[-1], reply[-1]):
                 raise Differs(f"Linux answered `{reply[:80]}`, and the calls before it make `{made[:80]}`")
-        self.calls.append(Call(text, reply, self.said))
+        self.calls.append(Call(text, reply, self.said, self.line))
         self.said = ""
         if len(self.model.handles) > MOST_OPEN:
             raise Differs(f"more than {MOST_OPEN} descriptors are open")
-        if text.startswith(("open", "mkdir", "write", "pwrite", "truncate", "rename")):
-            self.measure()
-
-    def measure(self) -> None:
-        """Notes how many blocks, nodes and names the image has to have."""
-        self.most_blocks = max(self.most_blocks, self.model.blocks())
-        nodes = self.model.nodes()
-        folders = sum(isinstance(node, Folder) for _, node in nodes)
-        self.most_nodes = max(self.most_nodes, folders + len(self.model.files()))
-        self.most_names = max(self.most_names, len(nodes) - 1)
 
 
 def check_path(path: str) -> None:

@@ -16,23 +16,16 @@ import shlex
 import stat
 
 from tools.convert import Converter
-from tools.model import BLOCK, File, Folder, Model, spelled
-from tools.program import Outcome, RunFailed, outcome_of, run_wrapper
-from tools.recorded import (
-    LONGEST_FILE, LONGEST_TEXT, MOST_CALLS, Call, Record, Refusal, calls_that_make, calls_that_open, check_path,
-)  # fmt: skip
+from tools.model import File, Folder, Model
+from tools.part import model_of_calls, part_of, script_text
+from tools.program import Outcome, outcome_of, run_wrapper
+from tools.recorded import LONGEST_FILE, Call, Record, Refusal, check_path
 from tools.trace import read_trace
-from tools.verdicts import SAID
 
 ROOT = "# root "
-DEFAULT = (256, 64, 64, 128)
-LIMITS = (16384, 1024, 1024, 4096)
-METADATA, STAGING_FILES = 64, 4
-# Where Linux and this project answer another error for the same call (docs/CALLS.md).
-OTHER_ERRORS = {
-    ("unlink", "EISDIR", "EPERM"), ("truncate", "EINVAL", "EBADF"), ("rmdir", "EINVAL", "EBUSY"), ("mkdir", "EISDIR", "EEXIST"),
-    ("open", "EINVAL", "EISDIR"),
-}  # fmt: skip
+# Where Linux and this project answer another error for the same call (docs/CALLS.md): for `unlink` of a directory, `truncate`
+# without write access, and `rmdir` of the folder that stands for `/`.
+OTHER_ERRORS = {("unlink", "EISDIR", "EPERM"), ("truncate", "EINVAL", "EBADF"), ("rmdir", "EINVAL", "EBUSY")}
 
 
 def model_of_folder(folder: str) -> Model:
@@ -73,14 +66,6 @@ def first_difference(one: Model, other: Model) -> str:
     return ""
 
 
-def model_of_calls(text: str) -> Model:
-    model = Model()
-    for line in text.splitlines():
-        if line and not line.startswith("#"):
-            model.apply(line)
-    return model
-
-
 def read(path: str) -> str:
     with open(path, encoding="utf-8", errors="surrogateescape") as file:
         return file.read()
@@ -97,91 +82,28 @@ def converted(trace: str, begin: str) -> tuple[str, Record]:
     if not lines or not lines[0].startswith(ROOT):
         raise Refusal(f"{trace} does not begin with a line `{ROOT}FOLDER`")
     root, record = lines[0][len(ROOT) :], Record(model_of_calls(begin))
-    record.measure()
     Converter(root, record).run(read_trace(lines))
     return root, record
 
 
-def part_of(record: Record, begin: str, first: int, last: int | None) -> tuple[Model, list[Call], Model]:
-    """Returns the tree before the calls from the first to the last, from 0, these calls, and the tree behind them. What was open
-    before is opened first."""
-    model = model_of_calls(begin)
-    for call in record.calls[:first]:
-        apply(model, call)
-    behind = model_of_calls("\n".join(calls_that_make(model)))
-    calls = [*calls_that_open(model), *record.calls[first : None if last is None else last + 1]]
-    for call in calls:
-        apply(behind, call)
-    return model, calls, behind
-
-
-def apply(model: Model, call: Call) -> None:
-    if not re.fullmatch(r"E[A-Z]+", call.reply):
-        model.apply(call.text)
-
-
-def script_text(calls: list[Call], said: str, head: str) -> str:
-    """Returns the script. What the command put on its standard output stands between the calls, as comments."""
-    lines = [f"# {head}"]
-    for call in calls:
-        lines += [*said_lines(call.said), call.text]
-    text = "\n".join([*lines, *said_lines(said), ""])
-    if len(calls) > MOST_CALLS:
-        raise Refusal(f"there are {len(calls)} calls, and a script has at most {MOST_CALLS}: take a part with --from and --to")
-    if len(text) > LONGEST_TEXT:
-        raise Refusal(f"the script would have {len(text)} bytes, and has at most {LONGEST_TEXT}: take a part with --from and --to")
-    return text
-
-
-def said_lines(said: str) -> list[str]:
-    return [SAID + line.encode("unicode_escape").decode() for line in said.splitlines(keepends=True)]
-
-
-def numbers_of(record: Record, is_fresh: bool) -> tuple[int, ...] | None:
-    """Returns the numbers of an image that has room, or nothing where the fresh one has and nothing is put into it first."""
-    blocks = -(-(METADATA + 3 * record.most_blocks) // 64) * 64
-    wanted = (blocks, 64, record.most_nodes + STAGING_FILES + 8, record.most_names + 16)
-    numbers = tuple(max(pair) for pair in zip(wanted, DEFAULT))
-    numbers = (min(numbers[0], LIMITS[0]), *numbers[1:])
-    if record.most_blocks + METADATA + 32 > numbers[0] or any(it > limit for it, limit in zip(numbers, LIMITS)):
-        raise Refusal(f"the files need more than an image has: {record.most_blocks} blocks, {record.most_nodes} files, {record.most_names} names")
-    return None if is_fresh and numbers == DEFAULT else numbers
-
-
-def setup_texts(model: Model) -> list[str]:
-    """Returns the scripts that make a tree: several, where one would be too long. A file is made whole in one of them or goes on
-    in the next by its open handle, so each begins and ends between files or between writes."""
-    texts, text, path = [], "", ""
-    for call in calls_that_make(model):
-        path = call.split(" ")[2] if call.startswith("open ") else path
-        if len(text) + len(call) + 16 > LONGEST_TEXT or text.count("\n") >= MOST_CALLS - 2:
-            is_inside = call.startswith("write ")
-            texts.append(text + ("close made\n" if is_inside or call == "close made" else ""))
-            text = f"open made {path} wa\n" if is_inside or call == "close made" else ""
-        text += call + "\n"
-    return [*texts, text] if text else texts
-
-
-def write_recording(out: str, record: Record, begin: str, command: str, part: tuple[int, int | None]) -> list[Call]:
+def write_recording(out: str, record: Record, begin: str, command: str, bounds: tuple[int, int | None]) -> list[Call]:
     """Writes what is made from a trace. Nothing is written where a part of it is refused."""
-    before, calls, behind = part_of(record, begin, *part)
-    is_whole = part[1] is None or part[1] >= len(record.calls) - 1
-    text = script_text(calls, record.said if is_whole else "", f"Recorded by ./replay: {command}")
-    setup = setup_texts(before)
-    numbers = numbers_of(record, not setup)
+    part = part_of(record, begin, *bounds)
+    texts = {"script": script_text(part, f"Recorded by ./replay: {command}")}
+    texts["replies"] = "".join(f"0.{at} {call.text} = {call.reply}\n" for at, call in enumerate(part.calls))
+    texts["tree"] = "".join(f"{line}\n" for line in part.behind.tree())
+    counts = sorted(record.left_out.items(), key=lambda it: (-it[1], it[0]))
+    texts["left-out"] = "".join(f"{count:6} {name}: {why}\n" for (name, why), count in counts)
+    texts |= {f"setup.{number}": made for number, made in enumerate(part.setup(), 1)}
+    numbers = part.numbers()
+    if numbers:
+        texts["mkfs"] = " ".join(map(str, numbers)) + "\n"
     for old in [*glob.glob(f"{out}/setup.*"), f"{out}/mkfs", f"{out}/image"]:
         if os.path.exists(old):
             os.remove(old)
-    write(f"{out}/script", text)
-    write(f"{out}/replies", "".join(f"0.{at} {call.text} = {call.reply}\n" for at, call in enumerate(calls)))
-    write(f"{out}/tree", "".join(f"{line}\n" for line in behind.tree()))
-    counts = sorted(record.left_out.items(), key=lambda it: (-it[1], it[0]))
-    write(f"{out}/left-out", "".join(f"{count:6} {name}: {why}\n" for (name, why), count in counts))
-    for number, made in enumerate(setup, 1):
-        write(f"{out}/setup.{number}", made)
-    if numbers:
-        write(f"{out}/mkfs", " ".join(map(str, numbers)) + "\n")
-    return calls
+    for name, text in texts.items():
+        write(f"{out}/{name}", text)
+    return part.calls
 
 
 def image_of(out: str) -> str:
@@ -190,9 +112,11 @@ def image_of(out: str) -> str:
     if not os.path.exists(f"{out}/mkfs"):
         return "-"
     if not os.path.exists(image):
-        run_wrapper("mkfs", image, *read(f"{out}/mkfs").split())
+        made = f"{out}/image.new"
+        run_wrapper("mkfs", made, *read(f"{out}/mkfs").split())
         for number in range(1, len(glob.glob(f"{out}/setup.*")) + 1):
-            run_wrapper("step", image, f"{out}/setup.{number}", "strict", "keep", image)
+            run_wrapper("step", made, f"{out}/setup.{number}", "strict", "keep", made)
+        os.replace(made, image)
     return image
 
 

@@ -1,4 +1,4 @@
-"""Runs the script of `crates/schedule_tests/src/seeds.rt` by each of its seeds, with a power loss after every thirteenth step, each with
+"""Runs the script of `crates/loss_tests/src/seeds.rt` by each of its seeds, with a power loss after every thirteenth step, each with
 one of the choices in turn, and judges what is left by the plain model of the calls. The gate tries a part of these losses, and judges
 by the proved judge. The program has to be built.
 
@@ -22,7 +22,7 @@ from tools.model import Differs, Model
 from tools.naming import call_of, caller_of, model_of_tree, succeeded
 from tools.program import CHOICES, TOP, Outcome, Progress, Script, outcome_of, run_built
 
-SOURCE = f"{TOP}/crates/schedule_tests/src/seeds.rt"
+SOURCE = f"{TOP}/crates/loss_tests/src/seeds.rt"
 IMAGE = ("64", "4", "16", "16")
 BEHIND, LOGGED = 64, ("write", "pwrite")
 

@@ -17,6 +17,8 @@ from tools.picture import Verdict
 from tools.program import Found, Outcome, Progress, RunFailed
 
 SAID = "# out: "
+# The variable that holds how many calls returned, where the command of a check names it.
+RETURNED = "SPLITFS_RETURNED"
 
 
 @dataclass(frozen=True)
@@ -26,6 +28,19 @@ class Check:
     command: str
     limit: float
     keep: str | None
+
+    def sight(self, outcome: Outcome, said: str) -> Sight:
+        return Sight(outcome.tree, said, str(len(outcome.calls)) if RETURNED in self.command else "")
+
+
+@dataclass(frozen=True)
+class Sight:
+    """What a check can see of an outcome: the tree, what the program had said by then, and how many calls returned where the check
+    asks for it."""
+
+    tree: tuple[str, ...]
+    said: str
+    returned: str
 
 
 def lay(tree: tuple[str, ...], folder: str) -> None:
@@ -53,11 +68,17 @@ def said_by_then(script: str) -> list[str]:
     return [*texts, said]
 
 
-def run_check(check: Check, folder: str, outcome: Outcome, said: str) -> Verdict:
-    """Runs the command in the folder. Its standard input is what the program had said by then."""
-    env = {**os.environ, "SPLITFS_RETURNED": str(len(outcome.calls)), "HERE": os.getcwd()}
+def run_check(check: Check, sight: Sight) -> Verdict:
+    """Runs the command in a fresh folder that holds the tree. Its standard input is what the program had said by then."""
+    with tempfile.TemporaryDirectory(prefix="splitfs-", ignore_cleanup_errors=True) as folder:
+        lay(sight.tree, folder)
+        return run_in(folder, check, sight)
+
+
+def run_in(folder: str, check: Check, sight: Sight) -> Verdict:
+    env = {**os.environ, "HERE": os.getcwd(), **({RETURNED: sight.returned} if sight.returned else {})}
     with tempfile.TemporaryFile() as output, tempfile.TemporaryFile() as given:
-        given.write(said.encode())
+        given.write(sight.said.encode())
         given.seek(0)
         how = {"stdin": given, "stdout": output, "stderr": subprocess.STDOUT, "start_new_session": True}
         with subprocess.Popen(["sh", "-c", check.command], cwd=folder, env=env, **how) as running:
@@ -72,41 +93,40 @@ def run_check(check: Check, folder: str, outcome: Outcome, said: str) -> Verdict
     return Verdict(status == 0, why, put)
 
 
-def keep_bad(check: Check, number: int, outcome: Outcome, said: str, verdict: Verdict) -> None:
-    """Keeps a bad outcome: the tree as the loss left it, the history, what the program had said, and what the command said."""
-    folder = f"{check.keep}/outcome-{number + 1}"
+def judged(found: Found, script: str, check: Check, jobs: int) -> list[Verdict]:
+    """Returns the verdict of each outcome. Those that look alike to the check are tried once, as many at once as there are jobs."""
+    said = said_by_then(script)
+    if len(said) != len(found.whole.calls) + 1:
+        raise RunFailed("explore: the script changed while it was run", 1)
+    sights = [check.sight(outcome, said[len(outcome.calls)]) for outcome in found.outcomes]
+    different = list(dict.fromkeys(sights))
+    progress, verdicts = Progress("explore", "trees judged"), {}
+    with concurrent.futures.ThreadPoolExecutor(jobs) as pool:
+        for sight, verdict in zip(different, pool.map(lambda it: run_check(check, it), different)):
+            verdicts[sight] = verdict
+            progress.tell(len(verdicts), len(different))
+    if check.keep:
+        keep_bad(check.keep, found, sights, verdicts)
+    return [verdicts[sight] for sight in sights]
+
+
+def keep_bad(keep: str, found: Found, sights: list[Sight], verdicts: dict[Sight, Verdict]) -> None:
+    """Keeps each bad outcome in a folder of its own, and removes those that were kept before."""
+    for old in glob.glob(f"{keep}/outcome-*/history"):
+        shutil.rmtree(os.path.dirname(old))
+    for number, (outcome, sight) in enumerate(zip(found.outcomes, sights), 1):
+        if not verdicts[sight].is_good:
+            keep_outcome(f"{keep}/outcome-{number}", outcome, sight.said, verdicts[sight])
+
+
+def keep_outcome(folder: str, outcome: Outcome, said: str, verdict: Verdict) -> None:
+    """Keeps the tree as the loss left it, the history, what the program had said, and what the command said."""
     shutil.rmtree(folder, ignore_errors=True)
     os.makedirs(f"{folder}/files")
     lay(outcome.tree, f"{folder}/files")
     for name, text in (("history", "".join(f"{it}\n" for it in outcome.calls)), ("said", said), ("output", verdict.output)):
         with open(f"{folder}/{name}", "w", encoding="utf-8") as file:
             file.write(text)
-
-
-def judged(found: Found, script: str, check: Check, jobs: int) -> list[Verdict]:
-    """Returns the verdict of each outcome, each tried once, as many at once as there are jobs."""
-    said = said_by_then(script)
-    for old in glob.glob(f"{check.keep}/outcome-*/history") if check.keep else []:
-        shutil.rmtree(os.path.dirname(old))
-    if len(said) != len(found.whole.calls) + 1:
-        raise RunFailed("explore: the script changed while it was run", 1)
-
-    def one(number: int) -> Verdict:
-        outcome = found.outcomes[number]
-        by_then = said[len(outcome.calls)]
-        with tempfile.TemporaryDirectory(prefix="splitfs-", ignore_cleanup_errors=True) as folder:
-            lay(outcome.tree, folder)
-            verdict = run_check(check, folder, outcome, by_then)
-        if check.keep and not verdict.is_good:
-            keep_bad(check, number, outcome, by_then, verdict)
-        return verdict
-
-    progress, verdicts = Progress("explore", "outcomes judged"), []
-    with concurrent.futures.ThreadPoolExecutor(jobs) as pool:
-        for verdict in pool.map(one, range(len(found.outcomes))):
-            verdicts.append(verdict)
-            progress.tell(len(verdicts), len(found.outcomes))
-    return verdicts
 
 
 def told_verdict(found: Found, number: int, verdict: Verdict, keep: str | None) -> list[str]:

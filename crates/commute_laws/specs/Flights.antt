@@ -56,7 +56,7 @@ KeepsView-seen s new who (Call.Write h x) node whole puts keeps = same_view s ne
 KeepsView-seen s new who (Call.Pwrite h start x) node whole puts keeps = same_view s new who h node (put_at-IsPutBy s who h start x puts.put node puts.is puts.node_is) keeps
 KeepsView-seen s new who call node whole puts keeps = tt
 
--- A write in flight: it puts these whole bytes into this node, which is a file.
+-- A write that is in flight: it puts these whole bytes into this node, which is a file.
 pub record InFlight (s : State) (c : Unfinished) (node : ℕ) (whole : List ℕ) : Type 0 where
   pub puts : PutsWhole s c.0 c.1 node whole
   pub file : File

@@ -58,7 +58,7 @@ not_and : (a b : Bool) → a ≡ false → b ≡ true → (not a && b) ≡ true
 not_and true b first second = cc
 not_and false b first second = second
 
--- A call that does not wait while another caller's logged call is out leaves that call's file alone.
+-- A call that does not wait while another caller's write is in flight leaves the file of that write alone.
 pub LeavesAlone-idle : (s : State) (out : List Out) (c : Unfinished) (who : Who) (node : ℕ) → is_busy s out c ≡ false
     → In (who, node) out → same_who who c.0 ≡ false → LeavesAlone s c node
 unfolding is_busy

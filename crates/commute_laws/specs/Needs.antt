@@ -1,4 +1,4 @@
--- What all logged calls that are out need, together.
+-- What all writes that are in flight need, together.
 use Rattle.std.specs.Prelude.{◌≡◌, ◌≢◌, ◌≤◌, ℕ, ◌+◌, List, [], ◌∷◌, ◌++◌, map, sum_by, refl}
 use Rattle.std.proofs.Common.{arith, ◌∙◌, sym, subst}
 use Rattle.std.proofs.lemmas.List.Sums.{sum_by-cons}
@@ -13,7 +13,7 @@ use Rattle.commute_laws.specs.Flights.{InFlight, InFlight-step, LeavesAlone-put,
 use Rattle.commute_laws.specs.Frames.{AreThreads, LeavesAlone}
 use Rattle.commute_laws.specs.Rooms.{FitsBeside, room-step}
 
--- A logged call that is out: the call, its file, and the whole bytes that it puts.
+-- A write that is in flight: the call, its file, and the whole bytes that it puts.
 pub record Flight : Type 0 where
   pub begun : Unfinished
   pub node : ℕ
@@ -30,7 +30,7 @@ abbrev pub AreInFlight : State → List Flight → Type 0
 AreInFlight s [] = Unit {0}
 AreInFlight s (f ∷ flights) = InFlight s f.begun f.node f.whole × AreInFlight s flights
 
--- a call of another thread, which leaves the file of the logged call alone
+-- a call of another thread, which leaves the file of the write alone
 pub record LetsBe (s : State) (d : Unfinished) (f : Flight) : Type 0 where
   pub threads : AreThreads f.begun.0 d.0
   pub aside : LeavesAlone s d f.node
@@ -79,7 +79,7 @@ FitsBeside-put s who (Call.Write h x) node whole k puts fits = λ none. fits
 FitsBeside-put s who (Call.Pwrite h start x) node whole k puts fits = λ none. fits
 FitsBeside-put s who call node whole k puts fits = let never = puts.is in cc
 
--- two logged calls of two threads, on two files
+-- two writes of two threads, on two files
 pub record AreTwo (f g : Flight) : Type 0 where
   pub threads : AreThreads g.begun.0 f.begun.0
   pub files : f.node ≢ g.node

@@ -39,7 +39,7 @@ use Rattle.live_step_laws.specs.live_model.world_image_laws.ImagesLaws.{Takes}
 use Rattle.live_step_laws.specs.live_model.world_image_laws.Promised.{KeepsPromise}
 use Rattle.live_step_laws.specs.live_model.world_image_laws.ImagesRooms.{room_kept}
 use Rattle.live_step_laws.specs.live_model.world_image_laws.Running.{promise_in_change, runs_on}
-use Rattle.log_checkpoint.proofs.relink_laws_proofs.StagingLaws.{restages-given_up}
+use Rattle.log_checkpoint.proofs.fsync_relink_proofs.StagingLaws.{restages-given_up}
 use Rattle.log_checkpoint.specs.world_model.Jobs.{live_claims}
 use Rattle.log_checkpoint.specs.world_model.Stands.{IsSane}
 use Rattle.log_checkpoint.specs.world_write_laws.Restages.{Restages}

@@ -27,15 +27,15 @@ use Rattle.live_step_laws.specs.k_split_model.View.{View}
 use Rattle.log_checkpoint.specs.fsync_relink.k_split.MapChanges.{is_free_in, IsMovedWith}
 use Rattle.live_step_laws.specs.list_laws.Filters.{filter-In}
 use Rattle.live_step_laws.specs.list_laws.Members.{In}
-use Rattle.log_checkpoint.specs.fsync_relink.relink_laws.Moves.{move_for}
+use Rattle.log_checkpoint.specs.fsync_relink.Moves.{move_for}
 use Rattle.live_step_laws.specs.live_model.Overlays.{IsOverlayOf, run_of}
 use Rattle.live_step_laws.specs.posix_tables.Open.{Tables}
 use Rattle.live_step_laws.specs.posix_spec.State.{State}
 use Rattle.live_step_laws.specs.world_image_laws.Images.{HasRoom}
 use Rattle.live_step_laws.specs.world_image_laws.ImagesLaws.{Takes}
-use Rattle.log_checkpoint.proofs.fsync_relink_proofs.relink_laws_proofs.RelinkLaws.{chain-file, chain-left}
-use Rattle.log_checkpoint.proofs.fsync_relink_proofs.relink_laws_proofs.WorldLaws.{free-in_data, free-unmapped, gives-relinks, relink-takes_one}
-use Rattle.log_checkpoint.specs.fsync_relink.relink_laws.Laws.{IsRelinkOf}
+use Rattle.log_checkpoint.proofs.fsync_relink_proofs.RelinkLaws.{chain-file, chain-left}
+use Rattle.log_checkpoint.proofs.fsync_relink_proofs.WorldLaws.{free-in_data, free-unmapped, gives-relinks, relink-takes_one}
+use Rattle.log_checkpoint.specs.fsync_relink.Laws.{IsRelinkOf}
 use Rattle.log_checkpoint.specs.fsync_relink.world_write_laws.Free.{stays_free_relinked}
 use Rattle.live_step_laws.specs.posix_tables.declared.nodes.Node.{Node}
 use Rattle.live_step_laws.specs.posix_tables.Nodes.{node_at}

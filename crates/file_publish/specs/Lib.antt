@@ -9,7 +9,7 @@ pub use Rattle.log_checkpoint.specs.image_model
 pub use Rattle.log_checkpoint.specs.extent_model
 pub use Rattle.log_checkpoint.specs.file_overlay
 pub use Rattle.log_checkpoint.specs.file_table
-pub use Rattle.log_checkpoint.specs.fsync_relink
+pub use Rattle.log_checkpoint.specs.fsync_relink as fsync_relink
 pub use Rattle.log_checkpoint.specs.k_journal
 pub use Rattle.log_checkpoint.specs.k_map_plans
 pub use Rattle.log_checkpoint.specs.k_plans

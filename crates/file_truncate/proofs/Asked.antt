@@ -1,14 +1,14 @@
 -- What the changes of a `truncate` ask for.
 use Rattle.std.specs.Prelude.{◌≡◌, ◌≤◌, ◌<◌, ◌+◌, List, [], ◌∷◌, length, map, Some, refl}
 use Rattle.std.proofs.Common.{arith, ap, ◌∙◌, sym}
-use Rattle.zero_fill.specs.layout_model.declared.lines.Draft.{Draft}
-use Rattle.zero_fill.specs.layout_model.Places.{reserve}
-use Rattle.zero_fill.specs.write_plan.image_model.Content.{size_by}
-use Rattle.zero_fill.specs.write_plan.image_model.Live.{latest}
-use Rattle.zero_fill.specs.write_plan.image_model.Volume.{inode}
-use Rattle.zero_fill.specs.write_plan.file_table.Files.{Files, runs_in, size_in}
+use Rattle.in_place.specs.layout_model.declared.lines.Draft.{Draft}
+use Rattle.in_place.specs.layout_model.Places.{reserve}
+use Rattle.in_place.specs.write_plan.image_model.Content.{size_by}
+use Rattle.in_place.specs.write_plan.image_model.Live.{latest}
+use Rattle.in_place.specs.write_plan.image_model.Volume.{inode}
+use Rattle.in_place.specs.write_plan.file_table.Files.{Files, runs_in, size_in}
 use Rattle.file_calls.proofs.live_step_laws_proofs.k_plans_proofs.FreeCounts.{unwaiting-counted}
-use Rattle.zero_fill.specs.write_plan.k_split_model.View.{View}
+use Rattle.in_place.specs.write_plan.k_split_model.View.{View}
 use Rattle.posix_types.specs.declared.call.Who.{Who}
 use Rattle.posix_types.specs.declared.handle.Handle.{Handle}
 use Rattle.posix_tables.specs.declared.open.Description.{Description}

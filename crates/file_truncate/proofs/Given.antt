@@ -1,20 +1,20 @@
 -- What a `truncate` answers and leaves, each answer.
 use Rattle.std.specs.Prelude.{◌≡◌, ◌≢◌, ◌≤◌, ◌<◌, ◌+◌, ◌-◌, ℕ, true, false, List, [], ◌∷◌, length, Some, None, Result, Ok, Err, refl}
 use Rattle.std.proofs.Common.{arith, ap, ◌∙◌, sym, subst, inl, inr}
-use Rattle.zero_fill.specs.pm_model.declared.Cell.{Cell}
-use Rattle.zero_fill.specs.pm_model.Images.{IsImage}
-use Rattle.zero_fill.specs.pm_model.Powers.{is_on, Supply}
-use Rattle.zero_fill.specs.pm_model.Words.{Words}
-use Rattle.zero_fill.specs.layout_model.Journal.{journaled}
-use Rattle.zero_fill.specs.layout_model.Places.{Geometry}
-use Rattle.zero_fill.specs.layout_model.declared.lines.Kind.TheVariants.{File}
-use Rattle.zero_fill.specs.write_plan.image_model.Volume.{inode, Volume}
+use Rattle.in_place.specs.pm_model.declared.Cell.{Cell}
+use Rattle.in_place.specs.pm_model.Images.{IsImage}
+use Rattle.in_place.specs.pm_model.Powers.{is_on, Supply}
+use Rattle.in_place.specs.pm_model.Words.{Words}
+use Rattle.in_place.specs.layout_model.Journal.{journaled}
+use Rattle.in_place.specs.layout_model.Places.{Geometry}
+use Rattle.in_place.specs.layout_model.declared.lines.Kind.TheVariants.{File}
+use Rattle.in_place.specs.write_plan.image_model.Volume.{inode, Volume}
 use Rattle.file_calls.proofs.eof_laws_proofs.Ending.{end_sized}
 use Rattle.file_calls.specs.eof_laws.Ends.{FilesEnd}
-use Rattle.zero_fill.specs.write_plan.file_table.Files.{Files, runs_in, size_in}
-use Rattle.zero_fill.specs.write_plan.k_journal.declared.outcomes.Commit.{Commit}
-use Rattle.zero_fill.specs.write_plan.k_split_model.View.{View}
-use Rattle.zero_fill.specs.list_laws.Members.{In}
+use Rattle.in_place.specs.write_plan.file_table.Files.{Files, runs_in, size_in}
+use Rattle.in_place.specs.write_plan.k_journal.declared.outcomes.Commit.{Commit}
+use Rattle.in_place.specs.write_plan.k_split_model.View.{View}
+use Rattle.in_place.specs.list_laws.Members.{In}
 use Rattle.file_calls.proofs.k_split_laws_proofs.Cuts.{left_at, left_map_cut, left_overwritten, left_through}
 use Rattle.file_calls.specs.k_split_laws.Left.{IsLeftOf}
 use Rattle.posix_types.specs.declared.call.Call.{Call}
@@ -28,13 +28,13 @@ use Rattle.posix_tables.specs.declared.open.Description.{Description}
 use Rattle.posix_tables.specs.Open.{opened, Tables}
 use Rattle.posix_tables.specs.Outcomes.{answer, first}
 use Rattle.posix_tables.specs.Room.{growth}
-use Rattle.zero_fill.specs.write_plan.posix_spec.FileRows.{content, truncate_rows}
-use Rattle.zero_fill.specs.write_plan.crash_spec.Busy.{waits_for}
-use Rattle.zero_fill.specs.write_plan.posix_spec.Run.{run}
-use Rattle.zero_fill.specs.write_plan.posix_spec.State.{room, State}
-use Rattle.zero_fill.specs.write_plan.Numbers.{RoomIsKept}
-use Rattle.zero_fill.specs.write_plan.Rows.{truncate_row_by}
-use Rattle.zero_fill.specs.CleansLaws.{KeepsCleaned, MayClean, StandsCleaned}
+use Rattle.in_place.specs.write_plan.posix_spec.FileRows.{content, truncate_rows}
+use Rattle.in_place.specs.write_plan.crash_spec.Busy.{waits_for}
+use Rattle.in_place.specs.write_plan.posix_spec.Run.{run}
+use Rattle.in_place.specs.write_plan.posix_spec.State.{room, State}
+use Rattle.in_place.specs.write_plan.Numbers.{RoomIsKept}
+use Rattle.in_place.specs.write_plan.Rows.{truncate_row_by}
+use Rattle.in_place.specs.CleansLaws.{KeepsCleaned, MayClean, StandsCleaned}
 use Rattle.file_truncate.proofs.Cut.{keeps_sized}
 use Rattle.file_truncate.proofs.Sized.{stands_sized}
 use Rattle.file_truncate.proofs.Zeros.{cleans_behind}

@@ -7,4 +7,4 @@ mod Rows
 mod Given
 mod Asked
 pub use Rattle.file_calls.proofs as file_calls_proofs
-pub use Rattle.zero_fill.proofs.write_plan_proofs
+pub use Rattle.in_place.proofs.write_plan_proofs

@@ -2,11 +2,11 @@
 use Rattle.std.specs.Prelude.{◌≡◌, ◌-◌, ℕ, Bool, true, false, length, Option, Some, None, option_map, sum_by, refl}
 use Rattle.std.specs.Option.{option_map_or}
 use Rattle.std.proofs.Common.{ap, ◌∙◌}
-use Rattle.zero_fill.specs.block_counts.Counts.{held_by, reserve_for}
-use Rattle.zero_fill.specs.layout_model.Places.{data_blocks, Geometry}
-use Rattle.zero_fill.specs.write_plan.file_table.Files.{Files, size_in}
-use Rattle.zero_fill.specs.write_plan.k_split_model.View.{View}
-use Rattle.zero_fill.specs.open_files.Numbered.{described_as}
+use Rattle.in_place.specs.block_counts.Counts.{held_by, reserve_for}
+use Rattle.in_place.specs.layout_model.Places.{data_blocks, Geometry}
+use Rattle.in_place.specs.write_plan.file_table.Files.{Files, size_in}
+use Rattle.in_place.specs.write_plan.k_split_model.View.{View}
+use Rattle.in_place.specs.open_files.Numbered.{described_as}
 use Rattle.posix_types.specs.declared.call.Call.{Call}
 use Rattle.posix_types.specs.declared.call.Who.{Who}
 use Rattle.posix_types.specs.declared.handle.Handle.{Handle}
@@ -17,14 +17,14 @@ use Rattle.posix_tables.specs.declared.open.Description.{Description}
 use Rattle.posix_tables.specs.Nodes.{bytes_of, node_at}
 use Rattle.posix_tables.specs.Open.{may_write, opened, Tables}
 use Rattle.posix_tables.specs.Outcomes.{answer, first}
-use Rattle.zero_fill.specs.write_plan.posix_spec.FileRows.{content, truncate_rows}
-use Rattle.zero_fill.specs.write_plan.posix_spec.Run.{after_call}
-use Rattle.zero_fill.specs.write_plan.posix_spec.State.{room, State, with_file}
-use Rattle.zero_fill.specs.write_plan.posix_spec.Step.{step, stepped, truncate_done}
-use Rattle.zero_fill.specs.write_plan.crash_spec.Busy.{waits_for}
-use Rattle.zero_fill.proofs.write_plan_proofs.Numbers.{length_at}
-use Rattle.zero_fill.specs.write_plan.Numbers.{RoomIsKept}
-use Rattle.zero_fill.specs.write_plan.Rows.{truncate_row_by}
+use Rattle.in_place.specs.write_plan.posix_spec.FileRows.{content, truncate_rows}
+use Rattle.in_place.specs.write_plan.posix_spec.Run.{after_call}
+use Rattle.in_place.specs.write_plan.posix_spec.State.{room, State, with_file}
+use Rattle.in_place.specs.write_plan.posix_spec.Step.{step, stepped, truncate_done}
+use Rattle.in_place.specs.write_plan.crash_spec.Busy.{waits_for}
+use Rattle.in_place.proofs.write_plan_proofs.Numbers.{length_at}
+use Rattle.in_place.specs.write_plan.Numbers.{RoomIsKept}
+use Rattle.in_place.specs.write_plan.Rows.{truncate_row_by}
 use Rattle.file_calls.specs.live_step_laws.world_model.Stands.{number}
 use Rattle.file_calls.specs.live_step_laws.live_model.Standing.{Kept}
 use Rattle.file_calls.specs.Runs.{RunsAs}

@@ -37,7 +37,7 @@ use Rattle.file_calls.specs.live_step_laws.volume_laws.PoolLaws.{AreInData, unus
 use Rattle.file_calls.specs.live_step_laws.k_plans.Whole.{IsWhole}
 use Rattle.file_calls.specs.live_step_laws.live_model.k_split.SizeLaws.{sized-free}
 use Rattle.file_calls.specs.live_step_laws.live_model.k_split.MapChanges.{is_free_in, IsSizedWith}
-use Rattle.log_replay.proofs.relink_laws_proofs.WorldLaws.{free-in_data, free-unmapped}
+use Rattle.log_replay.proofs.fsync_relink_proofs.WorldLaws.{free-in_data, free-unmapped}
 use Rattle.file_calls.specs.live_step_laws.posix_types.declared.call.Call.{Call}
 use Rattle.file_calls.specs.live_step_laws.posix_types.declared.call.Who.{Who}
 use Rattle.file_calls.specs.live_step_laws.posix_types.declared.handle.Handle.{Handle}

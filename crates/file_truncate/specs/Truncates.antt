@@ -1,16 +1,16 @@
 -- What a `truncate` answers and leaves.
 use Rattle.posix_tables.specs.block_counts.declared.TheConstants.{LONGEST_FILE}
 use Rattle.std.specs.Prelude.{◌≡◌, ◌⊎◌, ◌≤◌, ◌<◌, ◌+◌, ◌-◌, ◌^◌, ℕ, Bool, true, false, List, [], ◌∷◌, length, Option, Some, None, Result, Ok, Err}
-use Rattle.zero_fill.specs.pm_model.Powers.{is_on, Supply}
-use Rattle.zero_fill.specs.layout_model.Places.{Geometry}
-use Rattle.zero_fill.specs.write_plan.file_table.Files.{ChangesFile, Files, runs_in, spare_in}
+use Rattle.in_place.specs.pm_model.Powers.{is_on, Supply}
+use Rattle.in_place.specs.layout_model.Places.{Geometry}
+use Rattle.in_place.specs.write_plan.file_table.Files.{ChangesFile, Files, runs_in, spare_in}
 use Rattle.file_calls.specs.live_step_laws.k_split.Bytes.{IsOverwriteCut, IsOverwriteDone, tail_zeros}
 use Rattle.file_calls.specs.live_step_laws.k_split.declared.faults.KFault.{KFault}
 use Rattle.file_calls.specs.live_step_laws.k_split.MapChanges.{IsSizeAnswer}
 use Rattle.file_calls.specs.live_step_laws.world_model.JobLaws.{needs as needs_of}
 use Rattle.file_calls.specs.live_step_laws.world_step_laws.Steps.{LetsJobsBe}
-use Rattle.zero_fill.specs.write_plan.k_journal.declared.outcomes.Commit.{Commit}
-use Rattle.zero_fill.specs.write_plan.k_split_model.View.{View}
+use Rattle.in_place.specs.write_plan.k_journal.declared.outcomes.Commit.{Commit}
+use Rattle.in_place.specs.write_plan.k_split_model.View.{View}
 use Rattle.file_calls.specs.k_split_laws.Left.{IsLeftOf}
 use Rattle.posix_types.specs.declared.call.Call.{Call}
 use Rattle.posix_types.specs.declared.call.Who.{Who}
@@ -22,11 +22,11 @@ use Rattle.posix_tables.specs.declared.open.Description.{Description}
 use Rattle.posix_tables.specs.Open.{opened, Tables}
 use Rattle.posix_tables.specs.Outcomes.{answer, first}
 use Rattle.posix_tables.specs.Room.{growth}
-use Rattle.zero_fill.specs.write_plan.posix_spec.FileRows.{content, truncate_rows}
-use Rattle.zero_fill.specs.write_plan.posix_spec.Run.{after_call, run}
-use Rattle.zero_fill.specs.write_plan.posix_spec.State.{room, State}
-use Rattle.zero_fill.specs.write_plan.posix_spec.Step.{step}
-use Rattle.zero_fill.specs.write_plan.Rows.{truncate_row_by}
+use Rattle.in_place.specs.write_plan.posix_spec.FileRows.{content, truncate_rows}
+use Rattle.in_place.specs.write_plan.posix_spec.Run.{after_call, run}
+use Rattle.in_place.specs.write_plan.posix_spec.State.{room, State}
+use Rattle.in_place.specs.write_plan.posix_spec.Step.{step}
+use Rattle.in_place.specs.write_plan.Rows.{truncate_row_by}
 use Rattle.file_calls.specs.live_step_laws.live_model.Losses.{KeepsWhenLost}
 use Rattle.file_calls.specs.live_step_laws.live_model.Standing.{Kept}
 use Rattle.file_calls.specs.declared.names.outcomes.NoMemory.{NoMemory}

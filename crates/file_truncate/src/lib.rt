@@ -6,7 +6,7 @@
 //! - `sizes`: A file gets another size while writes are in flight.
 //! - `truncates`: `truncate` while writes of other callers are in flight.
 //!
-//! Stands on `log_replay`, `file_calls`, `pm_lines`, `posix_types`, `posix_tables` and `zero_fill`.
+//! Stands on `log_replay`, `file_calls`, `pm_lines`, `posix_types`, `posix_tables` and `in_place`.
 #![tactic(auto)]
 
 mod laws;

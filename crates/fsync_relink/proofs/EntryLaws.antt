@@ -1,25 +1,25 @@
 -- Once a file is published of which the log holds the runs, just the entries of others are live.
 use Rattle.std.proofs.Common.{◌≡◌, ◌≢◌, ◌<◌, ◌/◌, ◌↔◌, ℕ, List, [], ◌∷◌, Ok, refl, sym, ◌∙◌, ap, subst, inl, inr}
-use Rattle.relink_laws.specs.pm_model.ImageLaws.{Follows-then}
-use Rattle.relink_laws.specs.pm_model.Images.{Follows, Follows-same, Follows-weaken, Then}
-use Rattle.relink_laws.specs.pm_model.Words.{Words}
-use Rattle.relink_laws.specs.layout_model.declared.lines.Draft.{Draft}
-use Rattle.relink_laws.specs.layout_model.declared.lines.Kind.TheVariants.{File}
-use Rattle.relink_laws.specs.layout_model.Journal.{journaled}
-use Rattle.relink_laws.specs.layout_model.Places.{log_line}
-use Rattle.relink_laws.specs.image_model.Content.{content, disk_of, size_of}
-use Rattle.relink_laws.specs.image_model.Live.{live_entries}
-use Rattle.relink_laws.specs.image_model.Volume.{inode, Volume}
+use Rattle.log_laws.specs.pm_model.ImageLaws.{Follows-then}
+use Rattle.log_laws.specs.pm_model.Images.{Follows, Follows-same, Follows-weaken, Then}
+use Rattle.log_laws.specs.pm_model.Words.{Words}
+use Rattle.log_laws.specs.layout_model.declared.lines.Draft.{Draft}
+use Rattle.log_laws.specs.layout_model.declared.lines.Kind.TheVariants.{File}
+use Rattle.log_laws.specs.layout_model.Journal.{journaled}
+use Rattle.log_laws.specs.layout_model.Places.{log_line}
+use Rattle.log_laws.specs.image_model.Content.{content, disk_of, size_of}
+use Rattle.log_laws.specs.image_model.Live.{live_entries}
+use Rattle.log_laws.specs.image_model.Volume.{inode, Volume}
 use Rattle.file_overlay.specs.declared.runs.Run.{Run}
-use Rattle.relink_laws.specs.k_split_model.Stands.{IsOldOrNew}
-use Rattle.relink_laws.specs.k_split_model.View.{View}
-use Rattle.relink_laws.specs.k_split.MapChanges.{IsRelinkAnswer}
-use Rattle.relink_laws.specs.list_laws.Members.{In}
-use Rattle.relink_laws.specs.log_laws.Logs.{AreSound, CarriesOut, HasSameFiles}
-use Rattle.relink_laws.specs.k_split_model.declared.map_changes.moves.Move.{Move}
-use Rattle.relink_laws.specs.volume_laws.Footprint.{SameLog}
-use Rattle.relink_laws.specs.volume_laws.FootprintLaws.{live_entries-same}
-use Rattle.relink_laws.specs.Images.{IsCarried}
+use Rattle.k_split.specs.k_split_model.Stands.{IsOldOrNew}
+use Rattle.k_split.specs.k_split_model.View.{View}
+use Rattle.k_split.specs.MapChanges.{IsRelinkAnswer}
+use Rattle.log_laws.specs.list_laws.Members.{In}
+use Rattle.log_laws.specs.Logs.{AreSound, CarriesOut, HasSameFiles}
+use Rattle.k_split.specs.k_split_model.declared.map_changes.moves.Move.{Move}
+use Rattle.log_laws.specs.volume_laws.Footprint.{SameLog}
+use Rattle.log_laws.specs.volume_laws.FootprintLaws.{live_entries-same}
+use Rattle.fsync_relink.specs.Images.{IsCarried}
 use Rattle.fsync_relink.specs.Logged.{IsLogged, run_of}
 use Rattle.fsync_relink.specs.Others.{CarriesAllOut, GoesOn, HasPublishedLog, IsPublishedIn, KeepsRest, LeavesEntries}
 use Rattle.fsync_relink.specs.Publishes.{AreRelinked, IsResized, MayPublish, move_of, size_before}

@@ -4,39 +4,39 @@ use Rattle.std.specs.Prelude.{All, AllPairs, filter}
 use Rattle.std.specs.Option.{option_map}
 use Rattle.std.proofs.lemmas.Bool.{and_parts, both_ways, eq-eqb}
 use Rattle.std.proofs.lemmas.Bool.Decides.{Decides-eqb}
-use Rattle.relink_laws.specs.pm_model.ImageLaws.{Follows-then}
-use Rattle.relink_laws.specs.pm_model.Images.{Follows, Follows-same, Follows-weaken, Then}
-use Rattle.relink_laws.specs.pm_model.Words.{Words}
-use Rattle.relink_laws.specs.layout_model.declared.lines.Draft.{Draft}
-use Rattle.relink_laws.specs.layout_model.declared.lines.Inode.{Inode}
-use Rattle.relink_laws.specs.layout_model.Journal.{journaled}
-use Rattle.relink_laws.specs.image_model.Content.{content, disk_by, entry_of_block, size_by, size_of}
-use Rattle.relink_laws.specs.image_model.Live.{latest, live_entries}
-use Rattle.relink_laws.specs.image_model.Volume.{inode, Volume}
+use Rattle.log_laws.specs.pm_model.ImageLaws.{Follows-then}
+use Rattle.log_laws.specs.pm_model.Images.{Follows, Follows-same, Follows-weaken, Then}
+use Rattle.log_laws.specs.pm_model.Words.{Words}
+use Rattle.log_laws.specs.layout_model.declared.lines.Draft.{Draft}
+use Rattle.log_laws.specs.layout_model.declared.lines.Inode.{Inode}
+use Rattle.log_laws.specs.layout_model.Journal.{journaled}
+use Rattle.log_laws.specs.image_model.Content.{content, disk_by, entry_of_block, size_by, size_of}
+use Rattle.log_laws.specs.image_model.Live.{latest, live_entries}
+use Rattle.log_laws.specs.image_model.Volume.{inode, Volume}
 use Rattle.file_overlay.specs.extent_model.Extents.{is_within}
 use Rattle.file_overlay.specs.declared.runs.Run.{Run}
 use Rattle.file_overlay.specs.Laws.{IsEarlier, LastIsGreatest, NoneHasBlock}
 use Rattle.file_overlay.specs.Runs.{has_block, last_run, place_in}
-use Rattle.relink_laws.specs.k_map_plans.Plans.{MayMove}
-use Rattle.relink_laws.specs.k_plans.Whole.{IsWhole}
+use Rattle.k_split.specs.k_map_plans.Plans.{MayMove}
+use Rattle.k_split.specs.k_plans.Whole.{IsWhole}
 use Rattle.std.specs.declared.alloc.AllocError.{AllocError}
-use Rattle.relink_laws.specs.k_journal.declared.outcomes.Commit.{Commit}
-use Rattle.relink_laws.specs.k_split_model.Stands.{IsOldOrNew}
-use Rattle.relink_laws.specs.k_split_model.View.{View}
-use Rattle.relink_laws.specs.k_split.MapChanges.{ChangesMaps, is_free_in, IsMovedWith, IsRelinkAnswer}
-use Rattle.relink_laws.specs.k_split.Order.{IsInOrder}
-use Rattle.relink_laws.specs.k_split.declared.faults.KFault.{KFault}
-use Rattle.relink_laws.specs.list_laws.Filters.{filter-In, In-filter}
-use Rattle.relink_laws.specs.list_laws.Members.{In}
-use Rattle.relink_laws.specs.Moves.{move_for}
-use Rattle.relink_laws.specs.k_split_model.declared.map_changes.moves.Move.{Move}
-use Rattle.relink_laws.specs.volume_laws.FootprintLaws.{live_entries-same}
-use Rattle.relink_laws.specs.volume_laws.Footprint.{SameLog}
-use Rattle.relink_laws.specs.world_model.Latest.{latest-In, latest-most, latest-none}
-use Rattle.relink_laws.proofs.RelinkLaws.{geometry-same, line-file}
-use Rattle.relink_laws.proofs.WorldLaws.{keeps-content}
-use Rattle.relink_laws.specs.log_laws.Logs.{CarriesOut, IsNext}
-use Rattle.relink_laws.specs.Images.{IsCarried}
+use Rattle.k_split.specs.k_journal.declared.outcomes.Commit.{Commit}
+use Rattle.k_split.specs.k_split_model.Stands.{IsOldOrNew}
+use Rattle.k_split.specs.k_split_model.View.{View}
+use Rattle.k_split.specs.MapChanges.{ChangesMaps, is_free_in, IsMovedWith, IsRelinkAnswer}
+use Rattle.k_split.specs.Order.{IsInOrder}
+use Rattle.k_split.specs.declared.faults.KFault.{KFault}
+use Rattle.log_laws.specs.list_laws.Filters.{filter-In, In-filter}
+use Rattle.log_laws.specs.list_laws.Members.{In}
+use Rattle.fsync_relink.specs.Moves.{move_for}
+use Rattle.k_split.specs.k_split_model.declared.map_changes.moves.Move.{Move}
+use Rattle.log_laws.specs.volume_laws.FootprintLaws.{live_entries-same}
+use Rattle.log_laws.specs.volume_laws.Footprint.{SameLog}
+use Rattle.log_laws.specs.world_model.Latest.{latest-In, latest-most, latest-none}
+use Rattle.fsync_relink.proofs.RelinkLaws.{geometry-same, line-file}
+use Rattle.fsync_relink.proofs.WorldLaws.{keeps-content}
+use Rattle.log_laws.specs.Logs.{CarriesOut, IsNext}
+use Rattle.fsync_relink.specs.Images.{IsCarried}
 use Rattle.fsync_relink.specs.Logged.{HasSameContent, IsLogged, run_of, ShowsLogged}
 use Rattle.fsync_relink.specs.Publishes.{AreRelinked, IsCarriedOut, IsPublishDone, IsPublishStopped, IsRelinkedUpTo, IsResized, MayPublish, move_of, published_at, size_before}
 use Rattle.fsync_relink.proofs.NextLaws.{may-move, next-may}

@@ -4,27 +4,27 @@ use Rattle.std.specs.Prelude.{IsSome, if◌then◌else◌}
 use Rattle.std.proofs.lemmas.Bool.{both_ways, cases_Bool, cases_eq, eq-eqb}
 use Rattle.std.proofs.lemmas.Bool.Decides.{nat_tests}
 use Rattle.std.proofs.lemmas.Option.{same_Some}
-use Rattle.relink_laws.specs.layout_model.block_counts.declared.TheConstants.{LONGEST_FILE}
-use Rattle.relink_laws.specs.layout_model.Lines.{is_inode, is_inode_of_kind}
-use Rattle.relink_laws.specs.layout_model.declared.lines.Inode.{Inode}
-use Rattle.relink_laws.specs.layout_model.declared.lines.Kind.{Kind}
-use Rattle.relink_laws.specs.layout_model.declared.lines.Kind.TheVariants.{File, Staging}
-use Rattle.relink_laws.specs.layout_model.Places.{reserve}
-use Rattle.relink_laws.specs.image_model.Volume.{extents, inode, Volume}
+use Rattle.log_laws.specs.layout_model.block_counts.declared.TheConstants.{LONGEST_FILE}
+use Rattle.log_laws.specs.layout_model.Lines.{is_inode, is_inode_of_kind}
+use Rattle.log_laws.specs.layout_model.declared.lines.Inode.{Inode}
+use Rattle.log_laws.specs.layout_model.declared.lines.Kind.{Kind}
+use Rattle.log_laws.specs.layout_model.declared.lines.Kind.TheVariants.{File, Staging}
+use Rattle.log_laws.specs.layout_model.Places.{reserve}
+use Rattle.log_laws.specs.image_model.Volume.{extents, inode, Volume}
 use Rattle.file_overlay.specs.extent_model.Extents.{disk_at, is_within}
 use Rattle.file_overlay.specs.declared.runs.Run.{Run}
-use Rattle.relink_laws.specs.k_map_plans.Plans.{IsLiveFile, IsStagingFile, MayMove}
-use Rattle.relink_laws.specs.k_plans.View.{node_at}
-use Rattle.relink_laws.specs.k_plans.Whole.{IsWhole}
-use Rattle.relink_laws.specs.k_split_model.Spaces.{is_free}
-use Rattle.relink_laws.specs.k_split_model.View.{View}
-use Rattle.relink_laws.specs.k_split.MapChanges.{is_free_in, IsMovedSingle, IsRelinkAnswer}
-use Rattle.relink_laws.specs.k_split.Order.{IsInOrder}
-use Rattle.relink_laws.specs.k_split_model.declared.map_changes.moves.Move.{Move}
-use Rattle.relink_laws.proofs.k_plans_proofs.FreeCounts.{unwaiting-counted}
+use Rattle.k_split.specs.k_map_plans.Plans.{IsLiveFile, IsStagingFile, MayMove}
+use Rattle.k_split.specs.k_plans.View.{node_at}
+use Rattle.k_split.specs.k_plans.Whole.{IsWhole}
+use Rattle.k_split.specs.k_split_model.Spaces.{is_free}
+use Rattle.k_split.specs.k_split_model.View.{View}
+use Rattle.k_split.specs.MapChanges.{is_free_in, IsMovedSingle, IsRelinkAnswer}
+use Rattle.k_split.specs.Order.{IsInOrder}
+use Rattle.k_split.specs.k_split_model.declared.map_changes.moves.Move.{Move}
+use Rattle.k_split.proofs.k_plans_proofs.FreeCounts.{unwaiting-counted}
 use Rattle.fsync_relink.specs.Publishes.{has_staged, IsStagedRun, MayPublish, move_of, ShareNone, size_before}
-use Rattle.relink_laws.proofs.RelinkLaws.{count-same, geometry-same, kind-same, line-file, map-left, map-other}
-use Rattle.relink_laws.proofs.WorldLaws.{relink-takes_one}
+use Rattle.fsync_relink.proofs.RelinkLaws.{count-same, geometry-same, kind-same, line-file, map-left, map-other}
+use Rattle.fsync_relink.proofs.WorldLaws.{relink-takes_one}
 
 -- ---- what a relink asks for
 

@@ -3,23 +3,23 @@ use Rattle.std.proofs.Common.{◌≡◌, ◌≢◌, ◌≤◌, ◌+◌, ℕ, zer
 use Rattle.std.specs.Prelude.{All, IsSome}
 use Rattle.std.proofs.lemmas.Bool.{cases_Bool}
 use Rattle.std.proofs.lemmas.List.Elements.{All-head, All-tail}
-use Rattle.relink_laws.specs.layout_model.declared.lines.Inode.{Inode}
-use Rattle.relink_laws.specs.layout_model.Places.{reserve}
-use Rattle.relink_laws.specs.image_model.Volume.{extents, inode}
+use Rattle.log_laws.specs.layout_model.declared.lines.Inode.{Inode}
+use Rattle.log_laws.specs.layout_model.Places.{reserve}
+use Rattle.log_laws.specs.image_model.Volume.{extents, inode}
 use Rattle.file_overlay.specs.extent_model.Extents.{disk_at}
 use Rattle.file_overlay.specs.declared.runs.Run.{Run}
-use Rattle.relink_laws.specs.k_map_plans.Plans.{IsLiveFile, IsStagingFile, MayMove}
-use Rattle.relink_laws.proofs.k_plans_proofs.FreeCounts.{unwaiting-counted}
-use Rattle.relink_laws.specs.k_split_model.View.{View}
-use Rattle.relink_laws.specs.k_split.MapChanges.{free_blocks_in, is_free_in, IsRelinkAnswer, IsSizeAnswer}
-use Rattle.relink_laws.specs.k_split_model.declared.map_changes.moves.Move.{Move}
+use Rattle.k_split.specs.k_map_plans.Plans.{IsLiveFile, IsStagingFile, MayMove}
+use Rattle.k_split.proofs.k_plans_proofs.FreeCounts.{unwaiting-counted}
+use Rattle.k_split.specs.k_split_model.View.{View}
+use Rattle.k_split.specs.MapChanges.{free_blocks_in, is_free_in, IsRelinkAnswer, IsSizeAnswer}
+use Rattle.k_split.specs.k_split_model.declared.map_changes.moves.Move.{Move}
 use Rattle.fsync_relink.specs.Others.{AllApart, GoesOn, KeepsRest, LeavesOthers, LeavesRoom}
 use Rattle.fsync_relink.specs.Publishes.{AreRelinked, has_staged, IsStagedRun, MayPublish, move_of, ShareNone, size_before}
 use Rattle.fsync_relink.proofs.NextLaws.{may-move, next-may, run-stays, staged-stays}
 use Rattle.fsync_relink.proofs.PublishedLaws.{staged-goes}
 use Rattle.fsync_relink.proofs.SizedLaws.{free-more, keeps-sized, line-beside, map-beside, no-staging}
-use Rattle.relink_laws.proofs.RelinkLaws.{applied-other, base-same, count-same, geometry-same, kind-same}
-use Rattle.relink_laws.proofs.WorldLaws.{relink-takes_one}
+use Rattle.fsync_relink.proofs.RelinkLaws.{applied-other, base-same, count-same, geometry-same, kind-same}
+use Rattle.fsync_relink.proofs.WorldLaws.{relink-takes_one}
 
 -- ---- one relink
 

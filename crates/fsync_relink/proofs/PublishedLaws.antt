@@ -9,19 +9,19 @@ use Rattle.std.proofs.lemmas.List.Folds.{find-append}
 use Rattle.std.proofs.lemmas.Bool.{and_parts, both_ways, cases_Bool, eqb-true}
 use Rattle.std.proofs.lemmas.Bool.Decides.{nat_tests}
 use Rattle.std.specs.declared.alloc.AllocError.{AllocError}
-use Rattle.relink_laws.specs.k_journal.declared.outcomes.Commit.{Commit}
-use Rattle.relink_laws.specs.image_model.Volume.{extents, inode, Volume}
+use Rattle.k_split.specs.k_journal.declared.outcomes.Commit.{Commit}
+use Rattle.log_laws.specs.image_model.Volume.{extents, inode, Volume}
 use Rattle.file_overlay.specs.extent_model.Extents.{disk_at, is_within}
 use Rattle.file_overlay.specs.declared.runs.Run.{Run}
 use Rattle.file_overlay.specs.Runs.{has_block, Overlaid, place_in, staged_at}
-use Rattle.relink_laws.specs.k_map_plans.Plans.{IsStagingFile, MayMove}
-use Rattle.relink_laws.specs.k_split_model.View.{View}
-use Rattle.relink_laws.specs.k_split.MapChanges.{is_free_in, IsRelinkAnswer}
-use Rattle.relink_laws.specs.k_split.Order.{IsInOrder}
-use Rattle.relink_laws.specs.k_split_model.declared.map_changes.moves.Move.{Move}
+use Rattle.k_split.specs.k_map_plans.Plans.{IsStagingFile, MayMove}
+use Rattle.k_split.specs.k_split_model.View.{View}
+use Rattle.k_split.specs.MapChanges.{is_free_in, IsRelinkAnswer}
+use Rattle.k_split.specs.Order.{IsInOrder}
+use Rattle.k_split.specs.k_split_model.declared.map_changes.moves.Move.{Move}
 use Rattle.fsync_relink.specs.Publishes.{ArePublished, AreRelinked, has_staged, IsCarriedOut, IsPublishAnswer, IsRelinkedEach, IsResizedOnce, IsStagedRun, last_order, MayPublish, move_of, published_at, ShareNone, size_before}
 use Rattle.fsync_relink.proofs.NextLaws.{applied-then, has-staged, may-move, next-may, size-then, staged-stays, staging-stays}
-use Rattle.relink_laws.proofs.RelinkLaws.{base-same, count-same, generation-same, geometry-same, kind-same, line-other, map-file, map-left, map-other, names-same}
+use Rattle.fsync_relink.proofs.RelinkLaws.{base-same, count-same, generation-same, geometry-same, kind-same, line-other, map-file, map-left, map-other, names-same}
 
 -- ---- the last run laid
 

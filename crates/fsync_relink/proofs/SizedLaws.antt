@@ -4,30 +4,30 @@ use Rattle.std.specs.Prelude.{is_some, nat_lt}
 use Rattle.std.proofs.lemmas.Bool.{cases_eq, cases_lt}
 use Rattle.std.proofs.lemmas.Bool.Decides.{nat_tests}
 use Rattle.std.proofs.lemmas.List.{length-set}
-use Rattle.relink_laws.specs.block_counts.Counts.{blocks_for}
-use Rattle.relink_laws.specs.layout_model.declared.lines.Inode.{Inode}
-use Rattle.relink_laws.specs.layout_model.declared.lines.Kind.TheVariants.{File, Staging}
-use Rattle.relink_laws.specs.image_model.Reading.{inode_set}
-use Rattle.relink_laws.specs.image_model.Room.{unused_blocks}
-use Rattle.relink_laws.specs.image_model.Rules.{file_blocks_of}
-use Rattle.relink_laws.specs.image_model.Volume.{chain, extents, inode, Volume}
-use Rattle.relink_laws.specs.extent_model.Counts.{block_count-mapped, is_mapped, one_if}
+use Rattle.log_laws.specs.block_counts.Counts.{blocks_for}
+use Rattle.log_laws.specs.layout_model.declared.lines.Inode.{Inode}
+use Rattle.log_laws.specs.layout_model.declared.lines.Kind.TheVariants.{File, Staging}
+use Rattle.log_laws.specs.image_model.Reading.{inode_set}
+use Rattle.log_laws.specs.image_model.Room.{unused_blocks}
+use Rattle.log_laws.specs.image_model.Rules.{file_blocks_of}
+use Rattle.log_laws.specs.image_model.Volume.{chain, extents, inode, Volume}
+use Rattle.log_laws.specs.extent_model.Counts.{block_count-mapped, is_mapped, one_if}
 use Rattle.file_overlay.specs.extent_model.declared.extent_words.Extent.{Extent}
 use Rattle.file_overlay.specs.extent_model.Extents.{block_count, disk_at, IsCanonical}
 use Rattle.file_overlay.specs.extent_model.Maps.{IsPart}
-use Rattle.relink_laws.specs.k_map_plans.Plans.{IsLiveFile, IsStagingFile}
-use Rattle.relink_laws.proofs.k_plans_proofs.FreeCounts.{unwaiting-counted}
-use Rattle.relink_laws.specs.k_plans.Whole.{IsWhole}
-use Rattle.relink_laws.specs.k_split_model.View.{View}
-use Rattle.relink_laws.specs.k_split.MapChanges.{free_blocks_in, is_free_in, IsSizeAnswer}
-use Rattle.relink_laws.specs.k_split_model.MapChangesChanges.{IsSized, with_size}
-use Rattle.relink_laws.specs.k_split_model.Taken.{with_map}
-use Rattle.relink_laws.specs.volume_laws.Changes.{extents-set_other, inode-set_other, inode-set_same}
-use Rattle.relink_laws.specs.volume_change_laws.Bounds.{count_below-most}
-use Rattle.relink_laws.specs.volume_change_laws.Lengths.{begins, disk_before, length-begins, starts}
-use Rattle.relink_laws.specs.volume_laws.PoolLaws.{AreInData, unused-set}
+use Rattle.k_split.specs.k_map_plans.Plans.{IsLiveFile, IsStagingFile}
+use Rattle.k_split.proofs.k_plans_proofs.FreeCounts.{unwaiting-counted}
+use Rattle.k_split.specs.k_plans.Whole.{IsWhole}
+use Rattle.k_split.specs.k_split_model.View.{View}
+use Rattle.k_split.specs.MapChanges.{free_blocks_in, is_free_in, IsSizeAnswer}
+use Rattle.k_split.specs.k_split_model.MapChangesChanges.{IsSized, with_size}
+use Rattle.k_split.specs.k_split_model.Taken.{with_map}
+use Rattle.log_laws.specs.volume_laws.Changes.{extents-set_other, inode-set_other, inode-set_same}
+use Rattle.k_split.specs.volume_change_laws.Bounds.{count_below-most}
+use Rattle.k_split.specs.volume_change_laws.Lengths.{begins, disk_before, length-begins, starts}
+use Rattle.log_laws.specs.volume_laws.PoolLaws.{AreInData, unused-set}
 use Rattle.fsync_relink.specs.Others.{GoesOn, KeepsRest}
-use Rattle.relink_laws.proofs.RelinkLaws.{has-chain}
+use Rattle.fsync_relink.proofs.RelinkLaws.{has-chain}
 
 -- ---- the front of a map
 

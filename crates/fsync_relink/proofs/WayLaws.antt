@@ -1,18 +1,18 @@
 -- Runs are relinked one after the other, and what is left of them.
 use Rattle.std.proofs.Common.{◌≡◌, ◌≤◌, ◌<◌, ◌+◌, ◌-◌, ◌*◌, ◌^◌, ℕ, false, List, [], ◌∷◌, length, take, drop, get_or, take_all, length-drop, None, Ok, Err, refl, sym, ◌∙◌, ap, subst, inl, inr, arith, add-one, drop-cons}
 use Rattle.std.proofs.lemmas.List.{drop_all}
-use Rattle.relink_laws.specs.pm_model.PowerLaws.{Steps-none, Steps-then}
-use Rattle.relink_laws.specs.pm_model.Powers.{Steps, Supply}
-use Rattle.relink_laws.specs.image_model.Volume.{inode}
+use Rattle.log_laws.specs.pm_model.PowerLaws.{Steps-none, Steps-then}
+use Rattle.log_laws.specs.pm_model.Powers.{Steps, Supply}
+use Rattle.log_laws.specs.image_model.Volume.{inode}
 use Rattle.file_overlay.specs.declared.runs.Run.{Run}
-use Rattle.relink_laws.specs.k_split_model.View.{View}
-use Rattle.relink_laws.specs.k_split.Answers.{IsPaid}
-use Rattle.relink_laws.specs.layout_model.Places.{reserve}
-use Rattle.relink_laws.specs.k_map_plans.Plans.{MayMove}
-use Rattle.relink_laws.specs.k_split.MapChanges.{free_blocks_in, IsMovedSingle, IsRelinkAnswer, IsSizeAnswer}
-use Rattle.relink_laws.specs.k_split_model.declared.map_changes.moves.Move.{Move}
-use Rattle.relink_laws.specs.k_split.Order.{IsInOrder}
-use Rattle.relink_laws.specs.k_split.declared.faults.KFault.{KFault}
+use Rattle.k_split.specs.k_split_model.View.{View}
+use Rattle.k_split.specs.Answers.{IsPaid}
+use Rattle.log_laws.specs.layout_model.Places.{reserve}
+use Rattle.k_split.specs.k_map_plans.Plans.{MayMove}
+use Rattle.k_split.specs.MapChanges.{free_blocks_in, IsMovedSingle, IsRelinkAnswer, IsSizeAnswer}
+use Rattle.k_split.specs.k_split_model.declared.map_changes.moves.Move.{Move}
+use Rattle.k_split.specs.Order.{IsInOrder}
+use Rattle.k_split.specs.declared.faults.KFault.{KFault}
 use Rattle.fsync_relink.specs.Publishes.{AreRelinked, IsPublishPaid, IsRelinkedEach, IsRelinkedUpTo, IsResizedOnce, MayPublish, move_of, size_before, stopped_by}
 use Rattle.fsync_relink.proofs.NextLaws.{may-move, moved-single, next-may}
 

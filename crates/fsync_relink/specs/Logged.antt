@@ -1,17 +1,17 @@
 -- Runs that the log holds, and the content of the images of a publishing.
 use Rattle.std.specs.Prelude.{◌≡◌, ◌↔◌, ℕ, List, AllPairs}
-use Rattle.relink_laws.specs.pm_model.Words.{Words}
-use Rattle.relink_laws.specs.layout_model.declared.lines.Draft.{Draft}
-use Rattle.relink_laws.specs.layout_model.Journal.{journaled}
-use Rattle.relink_laws.specs.image_model.Content.{content, disk_of, size_of}
-use Rattle.relink_laws.specs.image_model.Live.{live_entries}
-use Rattle.relink_laws.specs.image_model.Volume.{Volume}
+use Rattle.log_laws.specs.pm_model.Words.{Words}
+use Rattle.log_laws.specs.layout_model.declared.lines.Draft.{Draft}
+use Rattle.log_laws.specs.layout_model.Journal.{journaled}
+use Rattle.log_laws.specs.image_model.Content.{content, disk_of, size_of}
+use Rattle.log_laws.specs.image_model.Live.{live_entries}
+use Rattle.log_laws.specs.image_model.Volume.{Volume}
 use Rattle.file_overlay.specs.declared.runs.Run.{Run}
 use Rattle.file_overlay.specs.Laws.{IsEarlier}
 use Rattle.file_overlay.specs.Runs.{staged_at}
-use Rattle.relink_laws.specs.list_laws.Members.{In}
+use Rattle.log_laws.specs.list_laws.Members.{In}
 use Rattle.fsync_relink.specs.Publishes.{published_at}
-use Rattle.relink_laws.specs.log_laws.Logs.{AreSound}
+use Rattle.log_laws.specs.Logs.{AreSound}
 
 -- the run that a log entry is of
 abbrev pub run_of : Draft → Run

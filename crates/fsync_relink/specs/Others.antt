@@ -1,23 +1,23 @@
 -- What the publishing of one file leaves to others: what they ask for, and their entries in the log.
 use Rattle.std.specs.Prelude.{◌≡◌, ◌≢◌, ◌≤◌, ◌+◌, ◌↔◌, ℕ, false, List, length, All, Some}
-use Rattle.relink_laws.specs.pm_model.Frames.{KeepsSingle, SameLent}
-use Rattle.relink_laws.specs.pm_model.Images.{Follows}
-use Rattle.relink_laws.specs.pm_model.Words.{Words}
-use Rattle.relink_laws.specs.layout_model.declared.lines.Draft.{Draft}
-use Rattle.relink_laws.specs.layout_model.Journal.{journaled}
-use Rattle.relink_laws.specs.layout_model.Places.{reserve}
-use Rattle.relink_laws.specs.image_model.Content.{content}
-use Rattle.relink_laws.specs.image_model.Live.{live_entries}
-use Rattle.relink_laws.specs.image_model.Volume.{extents, inode, Volume}
+use Rattle.log_laws.specs.pm_model.Frames.{KeepsSingle, SameLent}
+use Rattle.log_laws.specs.pm_model.Images.{Follows}
+use Rattle.log_laws.specs.pm_model.Words.{Words}
+use Rattle.log_laws.specs.layout_model.declared.lines.Draft.{Draft}
+use Rattle.log_laws.specs.layout_model.Journal.{journaled}
+use Rattle.log_laws.specs.layout_model.Places.{reserve}
+use Rattle.log_laws.specs.image_model.Content.{content}
+use Rattle.log_laws.specs.image_model.Live.{live_entries}
+use Rattle.log_laws.specs.image_model.Volume.{extents, inode, Volume}
 use Rattle.file_overlay.specs.extent_model.Extents.{disk_at}
 use Rattle.file_overlay.specs.declared.runs.Run.{Run}
-use Rattle.relink_laws.specs.k_map_plans.Plans.{IsStagingFile}
-use Rattle.relink_laws.specs.k_split_model.View.{View}
-use Rattle.relink_laws.specs.k_split.MapChanges.{free_blocks_in}
-use Rattle.relink_laws.specs.k_split.Order.{IsInOrder}
-use Rattle.relink_laws.specs.list_laws.Members.{In}
-use Rattle.relink_laws.specs.log_laws.Logs.{AreSound, HasSameFiles}
-use Rattle.relink_laws.specs.volume_laws.Footprint.{SameLog}
+use Rattle.k_split.specs.k_map_plans.Plans.{IsStagingFile}
+use Rattle.k_split.specs.k_split_model.View.{View}
+use Rattle.k_split.specs.MapChanges.{free_blocks_in}
+use Rattle.k_split.specs.Order.{IsInOrder}
+use Rattle.log_laws.specs.list_laws.Members.{In}
+use Rattle.log_laws.specs.Logs.{AreSound, HasSameFiles}
+use Rattle.log_laws.specs.volume_laws.Footprint.{SameLog}
 use Rattle.fsync_relink.specs.Logged.{IsLogged}
 use Rattle.fsync_relink.specs.Publishes.{IsPublishDone, MayPublish, ShareNone}
 

@@ -2,22 +2,22 @@
 use Rattle.std.specs.Prelude.{◌≡◌, ◌≢◌, ◌⊎◌, ◌≤◌, ◌<◌, ◌+◌, ◌^◌, ◌/◌, ◌==◌, ◌&&◌, ℕ, Bool, true, false, List, [], ◌∷◌, length, All, AllPairs, Option, Some, None, if◌then◌else◌, Result, Ok, Err, alloc_error}
 use Rattle.std.specs.List.{list_any}
 use Rattle.std.specs.declared.alloc.AllocError.{AllocError}
-use Rattle.relink_laws.specs.pm_model.Cells.{cell, is_single}
-use Rattle.relink_laws.specs.pm_model.Powers.{is_on, Supply}
-use Rattle.relink_laws.specs.layout_model.block_counts.declared.TheConstants.{LONGEST_FILE}
-use Rattle.relink_laws.specs.layout_model.Places.{reserve}
-use Rattle.relink_laws.specs.image_model.Volume.{extents, inode, Volume}
+use Rattle.log_laws.specs.pm_model.Cells.{cell, is_single}
+use Rattle.log_laws.specs.pm_model.Powers.{is_on, Supply}
+use Rattle.log_laws.specs.layout_model.block_counts.declared.TheConstants.{LONGEST_FILE}
+use Rattle.log_laws.specs.layout_model.Places.{reserve}
+use Rattle.log_laws.specs.image_model.Volume.{extents, inode, Volume}
 use Rattle.file_overlay.specs.extent_model.Extents.{disk_at, is_within}
 use Rattle.file_overlay.specs.extent_model.Moves.{IsMapped}
 use Rattle.file_overlay.specs.declared.runs.Run.{Run}
 use Rattle.file_overlay.specs.Laws.{IsEarlier}
 use Rattle.file_overlay.specs.Runs.{Overlaid, staged_at}
-use Rattle.relink_laws.specs.k_journal.declared.outcomes.Commit.{Commit}
-use Rattle.relink_laws.specs.k_map_plans.Plans.{IsLiveFile, IsStagingFile}
-use Rattle.relink_laws.specs.k_split_model.View.{View}
-use Rattle.relink_laws.specs.k_split.declared.faults.KFault.{KFault}
-use Rattle.relink_laws.specs.k_split.MapChanges.{free_blocks_in, IsRelinkAnswer, IsSizeAnswer}
-use Rattle.relink_laws.specs.k_split_model.declared.map_changes.moves.Move.{Move}
+use Rattle.k_split.specs.k_journal.declared.outcomes.Commit.{Commit}
+use Rattle.k_split.specs.k_map_plans.Plans.{IsLiveFile, IsStagingFile}
+use Rattle.k_split.specs.k_split_model.View.{View}
+use Rattle.k_split.specs.declared.faults.KFault.{KFault}
+use Rattle.k_split.specs.MapChanges.{free_blocks_in, IsRelinkAnswer, IsSizeAnswer}
+use Rattle.k_split.specs.k_split_model.declared.map_changes.moves.Move.{Move}
 
 -- ---- what it asks for
 

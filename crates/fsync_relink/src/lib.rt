@@ -1,20 +1,24 @@
-//! Publishing: the staged runs of a file go over to it.
+//! Publishing: the staged runs of a file go over to it, and the laws of the relinks by which they go.
 //!
-//! A file's staged runs stand in its overlay until they are published: `publish` relinks them by rising order, each whole,
-//! by one change of K-Split each. The file's length goes with the last one; what it has applied rises with each. With no run it
-//! gets the length alone, where it has another one.
+//! `publish` relinks the runs of a file's overlay by rising order, each whole, by one change of K-Split each; the length of
+//! the file goes with the last one. Done, the file has the staged disk blocks and elsewhere what it had, and no run is laid; where
+//! the power goes or memory runs out, some first runs are published and the overlay is as it was. Whatever happens, each
+//! image has the content of the image before, where the log of that one holds the runs.
 //!
-//! The layer above may rely on this: done, the file has the staged disk blocks and elsewhere what it had, all others are as
-//! before, and no run is laid (`ArePublished`); each relink is one of K-Split's own answers (`AreRelinked`), so that the
-//! law of one relink holds of each; where the power goes or memory runs out, some first runs are published and the overlay is as
-//! it was. Whatever happens, each image has the content of the image before, where the log of that one holds the runs
-//! (`HasSameContent`).
+//! - `relink_laws`: A move that carries out a log entry is a relink of the World and keeps the content in each image; of bytes
+//!   in place each is the old one or the new one.
+//! - `publishing`: The runs of a file, one behind the other.
 //!
-//! Stands on `k_split`, `file_overlay` and `relink_laws`.
+//! Stands on `log_laws`, `k_split`, `k_journal`, `file_overlay` and `pm_lines`.
 #![tactic(auto)]
 
-mod laws;
 mod publishing;
+mod relink_laws;
 
-pub use laws::{a_publishing_leaves_others, overlays_show_what_the_log_holds};
-pub use publishing::{publish, publish_runs};
+pub use publishing::{
+    a_publishing_leaves_others, overlays_show_what_the_log_holds, publish, publish_runs,
+};
+pub use relink_laws::{
+    bytes_in_place_are_old_or_new, moves_are_relinks, relinks_are_those_of_the_world,
+    relinks_keep_the_content, staging_files_change_as_in_the_world,
+};

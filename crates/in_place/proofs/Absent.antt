@@ -6,8 +6,8 @@ use Rattle.live_step_laws.specs.extent_model.declared.extent_words.Extent.{Exten
 use Rattle.live_step_laws.specs.extent_model.Extents.{disk_at}
 use Rattle.live_step_laws.specs.image_model.Volume.{extents, Volume}
 use Rattle.live_step_laws.specs.live_model.file_table.Files.{Files, runs_in}
-use Rattle.zero_fill.specs.file_overlay.declared.runs.Run.{Run}
-use Rattle.zero_fill.specs.file_overlay.Runs.{staged_at}
+use Rattle.write_plan.specs.file_overlay.declared.runs.Run.{Run}
+use Rattle.write_plan.specs.file_overlay.Runs.{staged_at}
 use Rattle.in_place.specs.Holes.{absent_count, is_absent, IsUnstaged}
 use Rattle.in_place.proofs.Counting.{count_more, one_if}
 

@@ -22,9 +22,9 @@ use Rattle.live_step_laws.specs.world_model.Jobs.{live_claims}
 use Rattle.live_step_laws.specs.world_model.Latest.{latest-In}
 use Rattle.live_step_laws.specs.world_model.Stands.{is_used}
 use Rattle.live_step_laws.specs.world_model.TreeRules.{used_below}
-use Rattle.zero_fill.specs.file_overlay.Runs.{staged_at}
-use Rattle.zero_fill.specs.Gaps.{with_files}
-use Rattle.zero_fill.proofs.Zeroed.{entry}
+use Rattle.write_plan.specs.file_overlay.Runs.{staged_at}
+use Rattle.in_place.specs.Gaps.{with_files}
+use Rattle.in_place.proofs.Zeroed.{entry}
 use Rattle.in_place.specs.Holes.{HasRuns}
 
 few_bytes : (kind : Kind) (x : Inode) → is_inode_of_kind kind x ≡ true → x.size ≤ LONGEST_FILE

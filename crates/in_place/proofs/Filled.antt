@@ -42,11 +42,11 @@ use Rattle.live_step_laws.specs.FillsLaws.{AreOfOthers, FillsAsAsked, KeepsFille
 use Rattle.live_step_laws.specs.k_plans.Whole.{IsWhole}
 use Rattle.live_step_laws.proofs.Backs.{kept_over}
 use Rattle.live_step_laws.proofs.k_plans_proofs.FreeCounts.{unwaiting-counted}
-use Rattle.zero_fill.specs.k_split_laws.Left.{IsLeftOf}
-use Rattle.zero_fill.proofs.k_split_laws_proofs.Cuts.{left_at, left_map_cut, left_through}
-use Rattle.zero_fill.specs.file_overlay.Runs.{staged_at}
-use Rattle.zero_fill.specs.Gaps.{Stays, with_files}
-use Rattle.zero_fill.proofs.Lost.{kept_off, left_off}
+use Rattle.k_split_laws.specs.Left.{IsLeftOf}
+use Rattle.k_split_laws.proofs.Cuts.{left_at, left_map_cut, left_through}
+use Rattle.write_plan.specs.file_overlay.Runs.{staged_at}
+use Rattle.in_place.specs.Gaps.{Stays, with_files}
+use Rattle.in_place.proofs.Lost.{kept_off, left_off}
 use Rattle.in_place.specs.Holes.{absent_count, FillsRange, FillsSome, HasRuns, holes_need, is_absent, IsPresent, IsUnstaged, LosesHoles}
 use Rattle.in_place.proofs.Counting.{count_at_most, none_pass}
 use Rattle.in_place.proofs.Entries.{blocks_fit, out_where_staged}

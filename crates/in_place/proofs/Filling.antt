@@ -28,10 +28,10 @@ use Rattle.live_step_laws.specs.world_model.Stands.{is_used}
 use Rattle.live_step_laws.specs.world_model.TreeRules.{used_below}
 use Rattle.live_step_laws.specs.FillsLaws.{FillsAs, FillsAsAsked}
 use Rattle.live_step_laws.proofs.k_plans_proofs.FreeCounts.{unwaiting-counted}
-use Rattle.relink_laws.proofs.RelinkLaws.{has-chain}
-use Rattle.zero_fill.specs.file_overlay.Runs.{staged_at}
-use Rattle.zero_fill.specs.write_plan.eof_laws.Ends.{FilesEnd}
-use Rattle.zero_fill.specs.Gaps.{Stays}
+use Rattle.fsync_relink.proofs.RelinkLaws.{has-chain}
+use Rattle.write_plan.specs.file_overlay.Runs.{staged_at}
+use Rattle.write_plan.specs.eof_laws.Ends.{FilesEnd}
+use Rattle.in_place.specs.Gaps.{Stays}
 use Rattle.in_place.specs.Holes.{absent_count, FillsMap, HasRuns, is_absent, IsPresent, IsUnstaged}
 use Rattle.in_place.proofs.Counting.{count_apart, count_one, length_of, none_pass, one_if}
 

@@ -21,16 +21,16 @@ use Rattle.live_step_laws.specs.world_model.Stands.{is_used, LogStands}
 use Rattle.live_step_laws.specs.world_model.TreeRules.{used_below}
 use Rattle.live_step_laws.specs.world_step_laws.Parts.{part_of}
 use Rattle.live_step_laws.proofs.live_model_proofs.OverlaysOverlays.{overlay_is_log}
-use Rattle.zero_fill.specs.file_overlay.Runs.{staged_at}
-use Rattle.zero_fill.specs.Gaps.{with_files}
-use Rattle.zero_fill.specs.Zeros.{staged_place}
-use Rattle.zero_fill.proofs.Lost.{left_bytes, left_off}
-use Rattle.zero_fill.proofs.Zeroed.{staging_there, stands_to_place}
+use Rattle.write_plan.specs.file_overlay.Runs.{staged_at}
+use Rattle.in_place.specs.Gaps.{with_files}
+use Rattle.in_place.specs.Zeros.{staged_place}
+use Rattle.in_place.proofs.Lost.{left_bytes, left_off}
+use Rattle.in_place.proofs.Zeroed.{staging_there, stands_to_place}
 use Rattle.in_place.specs.Holes.{IsPresent}
 use Rattle.in_place.specs.Placing.{CanPlace, IsOnePiece, IsPieceAnswer, IsPlaceAnswer, LosesPlacing, Places, Placing, SameBeside}
 use Rattle.in_place.specs.PlaceLaws.{LieAt}
 use Rattle.in_place.proofs.Placed.{piece_is_cut, piece_is_off, piece_is_placed, piece_leaves}
-use Rattle.zero_fill.specs.k_split_laws.k_journal.declared.outcomes.Commit.{Commit}
+use Rattle.k_split_laws.specs.k_journal.declared.outcomes.Commit.{Commit}
 
 -- ---- steps
 

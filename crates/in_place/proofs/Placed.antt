@@ -48,7 +48,7 @@ use Rattle.live_step_laws.specs.live_model.Flying.{IsFlying}
 use Rattle.live_step_laws.specs.live_model.staging_files.Keeps.{Agrees}
 use Rattle.live_step_laws.specs.live_model.Standing.{file_state, LinesStand, StandsAt}
 use Rattle.live_step_laws.proofs.Words.{headed_changed, same_log}
-use Rattle.zero_fill.proofs.write_plan_proofs.Numbers.{file_node}
+use Rattle.write_plan.proofs.Numbers.{file_node}
 use Rattle.posix_laws.specs.posix_tables.Bytes.{overwritten}
 use Rattle.in_place.specs.Placing.{Placing}
 use Rattle.in_place.specs.PlaceLaws.{LieAt, PieceIsCut, PieceIsOff, PieceIsPlaced, PieceLeaves}

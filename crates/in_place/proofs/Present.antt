@@ -15,7 +15,7 @@ use Rattle.live_step_laws.specs.world_model.Landed.{within_bounds}
 use Rattle.live_step_laws.specs.world_model.Stands.{LogStands}
 use Rattle.live_step_laws.specs.world_write_laws.PlaceSteps.{covering}
 use Rattle.live_step_laws.proofs.live_model_proofs.OverlaysOverlays.{source_is_log}
-use Rattle.zero_fill.specs.file_overlay.Runs.{place_in, staged_at}
+use Rattle.write_plan.specs.file_overlay.Runs.{place_in, staged_at}
 use Rattle.in_place.specs.PlaceLaws.{PresentIsFound}
 
 module _ (v : Volume) (live : List Draft) (ino block : ℕ) (log : LogStands v live) where

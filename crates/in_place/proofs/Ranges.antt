@@ -28,7 +28,7 @@ use Rattle.live_step_laws.specs.world_write_laws.PlaceSteps.{covering, staging_b
 use Rattle.live_step_laws.specs.world_write_laws.Places.{WritesInPlace}
 use Rattle.posix_laws.proofs.ByteLaws.{index-overwritten}
 use Rattle.posix_laws.specs.posix_tables.Bytes.{overwritten}
-use Rattle.zero_fill.proofs.Places.{seen_byte}
+use Rattle.in_place.proofs.Places.{seen_byte}
 use Rattle.in_place.specs.Placing.{SameBeside}
 use Rattle.in_place.specs.PlaceLaws.{LieAt}
 

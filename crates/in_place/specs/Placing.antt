@@ -1,36 +1,36 @@
 -- A call that writes bytes of its file where they lie, as far as it came, and what a further part of it leaves.
 use Rattle.std.specs.Prelude.{◌≡◌, ◌≢◌, ◌⊎◌, ◌<◌, ◌≤◌, ◌+◌, ◌*◌, ◌/◌, ◌++◌, ℕ, None, Some, IsSome, true, List, length, slice_index}
-use Rattle.zero_fill.specs.k_split_laws.pm_model.Frames.{KeepsSingle, SameLent}
-use Rattle.zero_fill.specs.k_split_laws.pm_model.Images.{Follows}
-use Rattle.zero_fill.specs.k_split_laws.pm_model.Words.{byte_of, Words}
-use Rattle.zero_fill.specs.k_split_laws.layout_model.Journal.{journaled}
-use Rattle.zero_fill.specs.k_split_laws.layout_model.declared.lines.Draft.{Draft}
-use Rattle.zero_fill.specs.k_split_laws.layout_model.Places.{Geometry, is_data_block}
-use Rattle.zero_fill.specs.k_split_laws.image_model.Content.{disk_of}
-use Rattle.zero_fill.specs.k_split_laws.layout_model.declared.lines.Kind.TheVariants.{File}
-use Rattle.zero_fill.specs.k_split_laws.image_model.Volume.{inode, Volume}
-use Rattle.zero_fill.specs.k_split_laws.k_journal.declared.outcomes.Commit.{Commit}
-use Rattle.zero_fill.specs.k_split_laws.k_split_model.View.{View}
-use Rattle.zero_fill.specs.k_split_laws.k_split.Bytes.{IsOverwriteCut, IsOverwriteDone}
-use Rattle.zero_fill.specs.k_split_laws.list_laws.Members.{In}
-use Rattle.zero_fill.specs.k_split_laws.posix_types.declared.call.Mode.{Mode}
-use Rattle.zero_fill.specs.k_split_laws.posix_types.declared.item.Item.{Item}
-use Rattle.zero_fill.specs.k_split_laws.posix_tables.Bytes.{overwritten}
-use Rattle.zero_fill.specs.k_split_laws.posix_tables.Open.{Tables}
-use Rattle.zero_fill.specs.k_split_laws.posix_spec.Run.{run}
-use Rattle.zero_fill.specs.k_split_laws.posix_spec.State.{State}
-use Rattle.zero_fill.specs.live_step_laws.crash_spec.Sync.{file_bytes, IsPartOf}
-use Rattle.zero_fill.specs.live_step_laws.commute_laws.Needs.{Flight}
-use Rattle.zero_fill.specs.live_step_laws.world_step_laws.Parts.{FliesWith, part_of}
-use Rattle.zero_fill.specs.k_split_laws.Left.{IsLeftOf}
-use Rattle.zero_fill.specs.live_step_laws.world_model.Jobs.{Job, live_claims}
-use Rattle.zero_fill.specs.live_step_laws.world_model.Stands.{number}
-use Rattle.zero_fill.specs.world_image_laws.Back.{IsKeptBackAmong}
-use Rattle.zero_fill.specs.block_counts.declared.TheConstants.{LONGEST_FILE, LONGEST_WRITE}
-use Rattle.zero_fill.specs.file_overlay.Runs.{staged_at}
-use Rattle.zero_fill.specs.live_model.file_table.Files.{Files, runs_in}
-use Rattle.zero_fill.specs.live_model.Standing.{Kept, StandsAt}
-use Rattle.zero_fill.specs.Gaps.{with_files}
+use Rattle.k_split_laws.specs.pm_model.Frames.{KeepsSingle, SameLent}
+use Rattle.k_split_laws.specs.pm_model.Images.{Follows}
+use Rattle.k_split_laws.specs.pm_model.Words.{byte_of, Words}
+use Rattle.k_split_laws.specs.layout_model.Journal.{journaled}
+use Rattle.k_split_laws.specs.layout_model.declared.lines.Draft.{Draft}
+use Rattle.k_split_laws.specs.layout_model.Places.{Geometry, is_data_block}
+use Rattle.k_split_laws.specs.image_model.Content.{disk_of}
+use Rattle.k_split_laws.specs.layout_model.declared.lines.Kind.TheVariants.{File}
+use Rattle.k_split_laws.specs.image_model.Volume.{inode, Volume}
+use Rattle.k_split_laws.specs.k_journal.declared.outcomes.Commit.{Commit}
+use Rattle.k_split_laws.specs.k_split_model.View.{View}
+use Rattle.k_split_laws.specs.k_split.Bytes.{IsOverwriteCut, IsOverwriteDone}
+use Rattle.k_split_laws.specs.list_laws.Members.{In}
+use Rattle.k_split_laws.specs.posix_types.declared.call.Mode.{Mode}
+use Rattle.k_split_laws.specs.posix_types.declared.item.Item.{Item}
+use Rattle.k_split_laws.specs.posix_tables.Bytes.{overwritten}
+use Rattle.k_split_laws.specs.posix_tables.Open.{Tables}
+use Rattle.k_split_laws.specs.posix_spec.Run.{run}
+use Rattle.k_split_laws.specs.posix_spec.State.{State}
+use Rattle.live_step_laws.specs.crash_spec.Sync.{file_bytes, IsPartOf}
+use Rattle.live_step_laws.specs.commute_laws.Needs.{Flight}
+use Rattle.live_step_laws.specs.world_step_laws.Parts.{FliesWith, part_of}
+use Rattle.k_split_laws.specs.Left.{IsLeftOf}
+use Rattle.live_step_laws.specs.world_model.Jobs.{Job, live_claims}
+use Rattle.live_step_laws.specs.world_model.Stands.{number}
+use Rattle.live_step_laws.specs.world_image_laws.Back.{IsKeptBackAmong}
+use Rattle.live_step_laws.specs.block_counts.declared.TheConstants.{LONGEST_FILE, LONGEST_WRITE}
+use Rattle.write_plan.specs.file_overlay.Runs.{staged_at}
+use Rattle.write_plan.specs.live_model.file_table.Files.{Files, runs_in}
+use Rattle.write_plan.specs.live_model.Standing.{Kept, StandsAt}
+use Rattle.in_place.specs.Gaps.{with_files}
 use Rattle.in_place.specs.Holes.{IsPresent}
 
 -- A CALL WRITES ITS FILE IN PLACE, AND CAME SO FAR: it was in flight beside the jobs that are out, in a state from which the World stands together in that

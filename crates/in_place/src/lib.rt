@@ -1,25 +1,23 @@
-//! Bytes of a file written where they lie, and its holes filled before, while writes are in flight: what sync mode does
-//! below a file's old end.
+//! Bytes of a file put where they lie while writes are in flight: zeros between a file's end and a write behind it, and
+//! what sync mode writes below a file's old end.
 //!
-//! `fill_absent` gives blocks of zeros to the blocks of a range that the file has neither in its map nor staged; no call
-//! sees a change. `put_in_place` writes bytes of a call there, each in the staged block that has it, else in the map's, and
-//! makes them durable: the state is that after the call but for bytes that are still to come. Where the power goes in
-//! either, each image, with log lines and blocks put back, is kept: with each byte of the range old or new, and the call at
-//! its place among those of the jobs. It takes memory for the new maps alone.
+//! `clear_gap` zeroes what lies behind the end of a file, in the end's own block; `fill_absent` gives blocks of zeros to the
+//! blocks of a range that the file has neither in its map nor staged: no call sees a change by either. `put_in_place` writes
+//! bytes of a call, each in the staged block that has it, else in the map's, and makes them durable. Wherever the power
+//! goes, each image, with log lines and blocks put back, is kept.
 //!
-//! - `holes`: Holes of a file get blocks.
-//! - `pieces`: One piece of bytes in place.
-//! - `places`: Bytes of a call are written where they lie.
+//! - `tails`: Zeros between the end of a file and a write behind it.
+//! - `placing`: Holes get blocks, and bytes of a call are written where they lie.
 //!
-//! Stands on `zero_fill`, `live_step_laws`, `relink_laws`, `posix_laws`, `k_split`, `k_journal`, `file_overlay`,
-//! `extent_map` and `pm_lines`.
+//! Stands on `live_step_laws`, `write_plan`, `fsync_relink`, `posix_laws`, `k_split_laws`, `k_split`, `k_journal`,
+//! `file_overlay`, `extent_map` and `pm_lines`.
 #![tactic(auto)]
 
-mod holes;
-mod laws;
-mod pieces;
-mod places;
+mod placing;
+mod tails;
 
-pub use holes::{Holes, fill_absent};
-pub use pieces::present_blocks_are_found;
-pub use places::put_in_place;
+pub use placing::{Holes, fill_absent, present_blocks_are_found, put_in_place};
+pub use tails::{
+    Commit, FileTable, blocks_are_zeroed_in_flight, clear_gap, kept_numbers_are_those_of_the_state,
+    room_by, the_end_of_a_file_is_cleaned_in_flight, truncate_row,
+};

@@ -1,19 +1,19 @@
 -- Lines and blocks of jobs are put back alike after a change that leaves the geometry, the lap and the maps of staging files.
 use Rattle.std.specs.Prelude.{◌≡◌, ℕ, List, [], ◌∷◌, ◌++◌, Option, Some, None}
 use Rattle.std.proofs.Common.{sym, subst}
-use Rattle.relink_laws.specs.world_write_laws.pm_model.declared.Cell.{Cell}
-use Rattle.relink_laws.specs.world_write_laws.pm_model.Parts.{put_back}
-use Rattle.relink_laws.specs.world_write_laws.pm_model.Words.{Words}
-use Rattle.relink_laws.specs.world_write_laws.layout_model.Journal.{journaled}
-use Rattle.relink_laws.specs.world_write_laws.layout_model.Places.{Geometry}
-use Rattle.relink_laws.specs.world_write_laws.layout_model.declared.lines.Draft.{Draft}
-use Rattle.relink_laws.specs.world_write_laws.image_model.Honest.{IsHonestWith}
-use Rattle.relink_laws.specs.world_write_laws.image_model.Volume.{Volume}
-use Rattle.relink_laws.specs.world_write_laws.posix_types.declared.item.Item.{Item}
-use Rattle.relink_laws.specs.world_write_laws.posix_spec.Run.{Unfinished}
-use Rattle.relink_laws.specs.world_write_laws.posix_spec.State.{State}
-use Rattle.relink_laws.specs.world_write_laws.world_model.Lines.{AreJobLines, AreLinesOut, IsClaimedLine, IsJobLine, Spells}
-use Rattle.relink_laws.specs.world_write_laws.world_model.Jobs.{Job}
+use Rattle.fsync_relink.specs.world_write_laws.pm_model.declared.Cell.{Cell}
+use Rattle.fsync_relink.specs.world_write_laws.pm_model.Parts.{put_back}
+use Rattle.fsync_relink.specs.world_write_laws.pm_model.Words.{Words}
+use Rattle.fsync_relink.specs.world_write_laws.layout_model.Journal.{journaled}
+use Rattle.fsync_relink.specs.world_write_laws.layout_model.Places.{Geometry}
+use Rattle.fsync_relink.specs.world_write_laws.layout_model.declared.lines.Draft.{Draft}
+use Rattle.fsync_relink.specs.world_write_laws.image_model.Honest.{IsHonestWith}
+use Rattle.fsync_relink.specs.world_write_laws.image_model.Volume.{Volume}
+use Rattle.fsync_relink.specs.world_write_laws.posix_types.declared.item.Item.{Item}
+use Rattle.fsync_relink.specs.world_write_laws.posix_spec.Run.{Unfinished}
+use Rattle.fsync_relink.specs.world_write_laws.posix_spec.State.{State}
+use Rattle.fsync_relink.specs.world_write_laws.world_model.Lines.{AreJobLines, AreLinesOut, IsClaimedLine, IsJobLine, Spells}
+use Rattle.fsync_relink.specs.world_write_laws.world_model.Jobs.{Job}
 use Rattle.k_split_laws.specs.world_image_laws.Back.{calls_in_log, IsKeptBack, IsPutBack}
 use Rattle.k_split_laws.specs.world_image_laws.Flights.{filled_same}
 use Rattle.k_split_laws.specs.world_image_laws.LentLaws.{SameBlocks}

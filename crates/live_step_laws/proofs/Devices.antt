@@ -1,18 +1,18 @@
 -- A change that writes spare blocks, done and cut off.
 use Rattle.std.specs.Prelude.{◌≡◌, ◌⊎◌, ◌<◌, ◌≤◌, ◌+◌, ◌*◌, ◌/◌, ◌^◌, ℕ, List, [], ◌∷◌, ◌++◌, Option, None, Some, refl}
 use Rattle.std.proofs.Common.{ap, inl, inr, ◌∙◌, subst, sym}
-use Rattle.relink_laws.specs.world_write_laws.pm_model.declared.Cell.{Cell}
-use Rattle.relink_laws.specs.world_write_laws.pm_model.Images.{ComesFrom, IsImage}
-use Rattle.relink_laws.specs.world_write_laws.pm_model.Words.{Words}
-use Rattle.relink_laws.specs.world_write_laws.layout_model.Journal.{IsSound, journaled}
-use Rattle.relink_laws.specs.world_write_laws.layout_model.declared.lines.Draft.{Draft}
-use Rattle.relink_laws.specs.world_write_laws.image_model.Reading.{Reads}
-use Rattle.relink_laws.specs.world_write_laws.image_model.Volume.{Volume}
-use Rattle.relink_laws.specs.world_write_laws.k_split_model.Stands.{IsOldOrNew}
-use Rattle.relink_laws.specs.world_write_laws.posix_spec.State.{State}
-use Rattle.relink_laws.specs.world_write_laws.world_model.Jobs.{Job}
-use Rattle.relink_laws.specs.world_write_laws.world_model.Lent.{in_data}
-use Rattle.relink_laws.specs.world_write_laws.world_step_laws.Worlds.{IsWorld}
+use Rattle.fsync_relink.specs.world_write_laws.pm_model.declared.Cell.{Cell}
+use Rattle.fsync_relink.specs.world_write_laws.pm_model.Images.{ComesFrom, IsImage}
+use Rattle.fsync_relink.specs.world_write_laws.pm_model.Words.{Words}
+use Rattle.fsync_relink.specs.world_write_laws.layout_model.Journal.{IsSound, journaled}
+use Rattle.fsync_relink.specs.world_write_laws.layout_model.declared.lines.Draft.{Draft}
+use Rattle.fsync_relink.specs.world_write_laws.image_model.Reading.{Reads}
+use Rattle.fsync_relink.specs.world_write_laws.image_model.Volume.{Volume}
+use Rattle.fsync_relink.specs.world_write_laws.k_split_model.Stands.{IsOldOrNew}
+use Rattle.fsync_relink.specs.world_write_laws.posix_spec.State.{State}
+use Rattle.fsync_relink.specs.world_write_laws.world_model.Jobs.{Job}
+use Rattle.fsync_relink.specs.world_write_laws.world_model.Lent.{in_data}
+use Rattle.fsync_relink.specs.world_write_laws.world_step_laws.Worlds.{IsWorld}
 use Rattle.k_split_laws.specs.world_image_laws.Changed.{ShowsLog-same, sound_headed}
 use Rattle.k_split_laws.specs.world_image_laws.Images.{HasRoom, IsHeaded, ShowsWorld, StandsFor}
 use Rattle.k_split_laws.specs.world_image_laws.ImagesLaws.{Takes}

@@ -3,28 +3,28 @@ use Rattle.std.specs.Prelude.{◌≡◌, ◌≢◌, ◌<◌, ◌≤◌, ◌+◌,
 use Rattle.std.specs.List.{list_any, range_with_len}
 use Rattle.std.proofs.Common.{arith, ap, ◌∙◌, sym, subst, inl, inr, length-append}
 use Rattle.std.proofs.lemmas.Bool.{cases_Bool}
-use Rattle.relink_laws.specs.world_write_laws.pm_model.declared.Cell.{Cell}
-use Rattle.relink_laws.specs.world_write_laws.block_counts.Counts.{chains_for}
-use Rattle.relink_laws.specs.world_write_laws.extent_model.declared.extent_words.Extent.{Extent}
-use Rattle.relink_laws.specs.world_write_laws.extent_model.Extents.{block_count, disk_at, IsCanonical, is_within}
-use Rattle.relink_laws.specs.world_write_laws.layout_model.declared.lines.Kind.TheVariants.{File}
-use Rattle.relink_laws.specs.world_write_laws.layout_model.Places.{data_blocks, is_data_block}
-use Rattle.relink_laws.specs.world_write_laws.image_model.Placed.{block_at}
-use Rattle.relink_laws.specs.world_write_laws.image_model.Room.{unused_blocks}
-use Rattle.relink_laws.specs.world_write_laws.image_model.Rules.{file_blocks_of}
-use Rattle.relink_laws.specs.world_write_laws.image_model.Volume.{chain, extents, inode, Volume}
-use Rattle.relink_laws.specs.world_write_laws.k_split_model.MapChangesChanges.{holes}
-use Rattle.relink_laws.specs.world_write_laws.k_split_model.Taken.{switched, with_map}
-use Rattle.relink_laws.specs.world_write_laws.k_split_model.View.{View}
-use Rattle.relink_laws.specs.world_write_laws.list_laws.Members.{In, In-slice_get}
-use Rattle.relink_laws.specs.world_write_laws.volume_laws.Changes.{chain-set_same, extents-set_other, extents-set_same, inode-set_other, inode-set_same}
-use Rattle.relink_laws.specs.world_write_laws.volume_laws.PoolLaws.{held-set, unused-held}
-use Rattle.relink_laws.specs.world_write_laws.volume_laws.Uses.{blocks_held, blocks_of}
-use Rattle.relink_laws.specs.world_write_laws.world_model.Stands.{IsSane, is_used}
-use Rattle.relink_laws.specs.world_write_laws.world_model.TreeRules.{used_below}
-use Rattle.relink_laws.specs.world_write_laws.HolesLaws.{FillsHoles, KeepsLine}
-use Rattle.relink_laws.proofs.RelinkLaws.{has-chain}
-use Rattle.relink_laws.proofs.WorldLaws.{sane-in-order, sane-same}
+use Rattle.fsync_relink.specs.world_write_laws.pm_model.declared.Cell.{Cell}
+use Rattle.fsync_relink.specs.world_write_laws.block_counts.Counts.{chains_for}
+use Rattle.fsync_relink.specs.world_write_laws.extent_model.declared.extent_words.Extent.{Extent}
+use Rattle.fsync_relink.specs.world_write_laws.extent_model.Extents.{block_count, disk_at, IsCanonical, is_within}
+use Rattle.fsync_relink.specs.world_write_laws.layout_model.declared.lines.Kind.TheVariants.{File}
+use Rattle.fsync_relink.specs.world_write_laws.layout_model.Places.{data_blocks, is_data_block}
+use Rattle.fsync_relink.specs.world_write_laws.image_model.Placed.{block_at}
+use Rattle.fsync_relink.specs.world_write_laws.image_model.Room.{unused_blocks}
+use Rattle.fsync_relink.specs.world_write_laws.image_model.Rules.{file_blocks_of}
+use Rattle.fsync_relink.specs.world_write_laws.image_model.Volume.{chain, extents, inode, Volume}
+use Rattle.fsync_relink.specs.world_write_laws.k_split_model.MapChangesChanges.{holes}
+use Rattle.fsync_relink.specs.world_write_laws.k_split_model.Taken.{switched, with_map}
+use Rattle.fsync_relink.specs.world_write_laws.k_split_model.View.{View}
+use Rattle.fsync_relink.specs.world_write_laws.list_laws.Members.{In, In-slice_get}
+use Rattle.fsync_relink.specs.world_write_laws.volume_laws.Changes.{chain-set_same, extents-set_other, extents-set_same, inode-set_other, inode-set_same}
+use Rattle.fsync_relink.specs.world_write_laws.volume_laws.PoolLaws.{held-set, unused-held}
+use Rattle.fsync_relink.specs.world_write_laws.volume_laws.Uses.{blocks_held, blocks_of}
+use Rattle.fsync_relink.specs.world_write_laws.world_model.Stands.{IsSane, is_used}
+use Rattle.fsync_relink.specs.world_write_laws.world_model.TreeRules.{used_below}
+use Rattle.fsync_relink.specs.world_write_laws.HolesLaws.{FillsHoles, KeepsLine}
+use Rattle.fsync_relink.proofs.RelinkLaws.{has-chain}
+use Rattle.fsync_relink.proofs.WorldLaws.{sane-in-order, sane-same}
 use Rattle.k_split_laws.specs.k_plans.Whole.{IsWhole}
 use Rattle.k_split_laws.specs.k_split.Filling.{IsFilledWith}
 use Rattle.k_split_laws.specs.k_split.Order.{IsInOrder}

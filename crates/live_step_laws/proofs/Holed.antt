@@ -3,47 +3,47 @@ use Rattle.std.specs.Prelude.{◌≡◌, ◌≢◌, ◌⊎◌, ◌≤◌, ◌<�
 use Rattle.std.proofs.Common.{arith, ap, ◌∙◌, sym, subst, inl, inr, length-append}
 use Rattle.std.proofs.lemmas.List.{get_or_append_left}
 use Rattle.std.proofs.lemmas.Bool.{both_ways, ne_eqb}
-use Rattle.relink_laws.specs.world_write_laws.pm_model.declared.Cell.{Cell}
-use Rattle.relink_laws.specs.world_write_laws.pm_model.Cells.{cell, is_lent}
-use Rattle.relink_laws.specs.world_write_laws.pm_model.ImageLaws.{IsImage-words_of}
-use Rattle.relink_laws.specs.world_write_laws.pm_model.Images.{IsImage, words_of}
-use Rattle.relink_laws.specs.world_write_laws.pm_model.Words.{line_bytes, Words}
-use Rattle.relink_laws.specs.world_write_laws.extent_model.Covers.{covers-disk_at}
-use Rattle.relink_laws.specs.world_write_laws.extent_model.Extents.{covers, disk_at}
-use Rattle.relink_laws.specs.world_write_laws.layout_model.Entries.{held_seq, is_self_valid}
-use Rattle.relink_laws.specs.world_write_laws.layout_model.Journal.{journaled}
-use Rattle.relink_laws.specs.world_write_laws.layout_model.PlaceLaws.{behind_log-not_journaled}
-use Rattle.relink_laws.specs.world_write_laws.layout_model.Places.{data_blocks, Geometry, is_data_block, log_line, reserve}
-use Rattle.relink_laws.specs.world_write_laws.layout_model.declared.lines.Draft.{Draft}
-use Rattle.relink_laws.specs.world_write_laws.layout_model.declared.lines.Kind.TheVariants.{File, Staging}
-use Rattle.relink_laws.specs.world_write_laws.image_model.Content.{size_by}
-use Rattle.relink_laws.specs.world_write_laws.image_model.Live.{latest}
-use Rattle.relink_laws.specs.world_write_laws.image_model.Placed.{block_at}
-use Rattle.relink_laws.specs.world_write_laws.image_model.Reading.{Reads}
-use Rattle.relink_laws.specs.world_write_laws.image_model.Room.{unused_blocks}
-use Rattle.relink_laws.specs.world_write_laws.image_model.Volume.{chain, extents, inode, Volume}
-use Rattle.relink_laws.specs.world_write_laws.volume_laws.Changes.{chain-set_same}
-use Rattle.relink_laws.specs.world_write_laws.volume_laws.ImageLaws.{journaled-other}
-use Rattle.relink_laws.specs.world_write_laws.volume_laws.LineWords.{data_word}
-use Rattle.relink_laws.specs.world_write_laws.k_split_model.Stands.{Stands}
-use Rattle.relink_laws.specs.world_write_laws.k_split_model.Taken.{with_map}
-use Rattle.relink_laws.specs.world_write_laws.k_split_model.View.{View}
-use Rattle.relink_laws.specs.world_write_laws.k_split_model.Zeros.{AreZeros}
-use Rattle.relink_laws.specs.world_write_laws.list_laws.Members.{In}
-use Rattle.relink_laws.specs.world_write_laws.posix_types.declared.item.Item.{Item}
-use Rattle.relink_laws.specs.world_write_laws.posix_tables.Open.{Tables}
-use Rattle.relink_laws.specs.world_write_laws.posix_spec.Run.{run, Unfinished}
-use Rattle.relink_laws.specs.world_write_laws.posix_spec.State.{State}
-use Rattle.relink_laws.specs.world_write_laws.world_model.Jobs.{Job, JobsStand, live_claims, staged_block}
-use Rattle.relink_laws.specs.world_write_laws.world_model.Stands.{entries_of, is_used}
-use Rattle.relink_laws.specs.world_write_laws.world_model.TreeRules.{used_below}
-use Rattle.relink_laws.specs.world_write_laws.world_step_laws.Steps.{AreBeside}
-use Rattle.relink_laws.specs.world_write_laws.world_step_laws.Touched.{only}
-use Rattle.relink_laws.specs.world_write_laws.world_step_laws.Worlds.{IsWorld}
-use Rattle.relink_laws.specs.world_write_laws.HolesLaws.{FillsHoles, KeepsLine}
-use Rattle.relink_laws.specs.world_write_laws.HolesSteps.{filled_holes, filled_line, filled_live, filled_staging}
-use Rattle.relink_laws.proofs.RelinkLaws.{has-chain}
-use Rattle.relink_laws.proofs.WorldLaws.{free-in_data, free-unmapped}
+use Rattle.fsync_relink.specs.world_write_laws.pm_model.declared.Cell.{Cell}
+use Rattle.fsync_relink.specs.world_write_laws.pm_model.Cells.{cell, is_lent}
+use Rattle.fsync_relink.specs.world_write_laws.pm_model.ImageLaws.{IsImage-words_of}
+use Rattle.fsync_relink.specs.world_write_laws.pm_model.Images.{IsImage, words_of}
+use Rattle.fsync_relink.specs.world_write_laws.pm_model.Words.{line_bytes, Words}
+use Rattle.fsync_relink.specs.world_write_laws.extent_model.Covers.{covers-disk_at}
+use Rattle.fsync_relink.specs.world_write_laws.extent_model.Extents.{covers, disk_at}
+use Rattle.fsync_relink.specs.world_write_laws.layout_model.Entries.{held_seq, is_self_valid}
+use Rattle.fsync_relink.specs.world_write_laws.layout_model.Journal.{journaled}
+use Rattle.fsync_relink.specs.world_write_laws.layout_model.PlaceLaws.{behind_log-not_journaled}
+use Rattle.fsync_relink.specs.world_write_laws.layout_model.Places.{data_blocks, Geometry, is_data_block, log_line, reserve}
+use Rattle.fsync_relink.specs.world_write_laws.layout_model.declared.lines.Draft.{Draft}
+use Rattle.fsync_relink.specs.world_write_laws.layout_model.declared.lines.Kind.TheVariants.{File, Staging}
+use Rattle.fsync_relink.specs.world_write_laws.image_model.Content.{size_by}
+use Rattle.fsync_relink.specs.world_write_laws.image_model.Live.{latest}
+use Rattle.fsync_relink.specs.world_write_laws.image_model.Placed.{block_at}
+use Rattle.fsync_relink.specs.world_write_laws.image_model.Reading.{Reads}
+use Rattle.fsync_relink.specs.world_write_laws.image_model.Room.{unused_blocks}
+use Rattle.fsync_relink.specs.world_write_laws.image_model.Volume.{chain, extents, inode, Volume}
+use Rattle.fsync_relink.specs.world_write_laws.volume_laws.Changes.{chain-set_same}
+use Rattle.fsync_relink.specs.world_write_laws.volume_laws.ImageLaws.{journaled-other}
+use Rattle.fsync_relink.specs.world_write_laws.volume_laws.LineWords.{data_word}
+use Rattle.fsync_relink.specs.world_write_laws.k_split_model.Stands.{Stands}
+use Rattle.fsync_relink.specs.world_write_laws.k_split_model.Taken.{with_map}
+use Rattle.fsync_relink.specs.world_write_laws.k_split_model.View.{View}
+use Rattle.fsync_relink.specs.world_write_laws.k_split_model.Zeros.{AreZeros}
+use Rattle.fsync_relink.specs.world_write_laws.list_laws.Members.{In}
+use Rattle.fsync_relink.specs.world_write_laws.posix_types.declared.item.Item.{Item}
+use Rattle.fsync_relink.specs.world_write_laws.posix_tables.Open.{Tables}
+use Rattle.fsync_relink.specs.world_write_laws.posix_spec.Run.{run, Unfinished}
+use Rattle.fsync_relink.specs.world_write_laws.posix_spec.State.{State}
+use Rattle.fsync_relink.specs.world_write_laws.world_model.Jobs.{Job, JobsStand, live_claims, staged_block}
+use Rattle.fsync_relink.specs.world_write_laws.world_model.Stands.{entries_of, is_used}
+use Rattle.fsync_relink.specs.world_write_laws.world_model.TreeRules.{used_below}
+use Rattle.fsync_relink.specs.world_write_laws.world_step_laws.Steps.{AreBeside}
+use Rattle.fsync_relink.specs.world_write_laws.world_step_laws.Touched.{only}
+use Rattle.fsync_relink.specs.world_write_laws.world_step_laws.Worlds.{IsWorld}
+use Rattle.fsync_relink.specs.world_write_laws.HolesLaws.{FillsHoles, KeepsLine}
+use Rattle.fsync_relink.specs.world_write_laws.HolesSteps.{filled_holes, filled_line, filled_live, filled_staging}
+use Rattle.fsync_relink.proofs.RelinkLaws.{has-chain}
+use Rattle.fsync_relink.proofs.WorldLaws.{free-in_data, free-unmapped}
 use Rattle.k_split_laws.specs.k_plans.Whole.{IsWhole}
 use Rattle.k_split_laws.specs.k_split.Filling.{IsFillAnswer, IsFilledWith}
 use Rattle.k_split_laws.specs.k_split.MapChanges.{ChangesMaps, is_free_in, IsMapCut, IsMapDone}

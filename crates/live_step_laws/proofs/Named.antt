@@ -1,23 +1,23 @@
 -- The World rests on the bytes of the blocks that maps have.
 use Rattle.std.specs.Prelude.{◌≡◌, ◌<◌, ℕ, ◌+◌, ◌*◌, ◌-◌, ◌/◌, ◌%◌, ◌==◌, ◌&&◌, List, [], ◌∷◌, length, Option, Some, None, refl}
 use Rattle.std.proofs.Common.{arith, ◌∙◌}
-use Rattle.relink_laws.specs.world_write_laws.pm_model.Words.{byte_of, Words}
-use Rattle.relink_laws.specs.world_write_laws.extent_model.Extents.{disk_at, is_within}
-use Rattle.relink_laws.specs.world_write_laws.layout_model.declared.lines.Draft.{Draft}
-use Rattle.relink_laws.specs.world_write_laws.image_model.Content.{byte_in, disk_by, disk_of, entry_of_block}
-use Rattle.relink_laws.specs.world_write_laws.image_model.Volume.{extents, inode, Volume}
-use Rattle.relink_laws.specs.world_write_laws.posix_tables.Nodes.{node_at}
-use Rattle.relink_laws.specs.world_write_laws.posix_spec.State.{State}
-use Rattle.relink_laws.specs.world_write_laws.list_laws.Filters.{filter-In}
-use Rattle.relink_laws.specs.world_write_laws.list_laws.Members.{In}
-use Rattle.relink_laws.specs.world_write_laws.world_model.Jobs.{Job, JobsStand, live_claims}
-use Rattle.relink_laws.specs.world_write_laws.world_model.Stands.{IsUsed, LogStands, number, Stands}
-use Rattle.relink_laws.specs.world_write_laws.world_model.JobLaws.{live_used}
-use Rattle.relink_laws.specs.world_write_laws.world_model.Landed.{NodeStands-same, SameFile}
-use Rattle.relink_laws.specs.world_write_laws.world_model.Latest.{latest-In}
-use Rattle.relink_laws.specs.world_write_laws.world_model.TreeRules.{used_below}
-use Rattle.relink_laws.specs.world_write_laws.PlaceSteps.{staging_below}
-use Rattle.relink_laws.specs.world_write_laws.world_step_laws.Worlds.{IsWorld}
+use Rattle.fsync_relink.specs.world_write_laws.pm_model.Words.{byte_of, Words}
+use Rattle.fsync_relink.specs.world_write_laws.extent_model.Extents.{disk_at, is_within}
+use Rattle.fsync_relink.specs.world_write_laws.layout_model.declared.lines.Draft.{Draft}
+use Rattle.fsync_relink.specs.world_write_laws.image_model.Content.{byte_in, disk_by, disk_of, entry_of_block}
+use Rattle.fsync_relink.specs.world_write_laws.image_model.Volume.{extents, inode, Volume}
+use Rattle.fsync_relink.specs.world_write_laws.posix_tables.Nodes.{node_at}
+use Rattle.fsync_relink.specs.world_write_laws.posix_spec.State.{State}
+use Rattle.fsync_relink.specs.world_write_laws.list_laws.Filters.{filter-In}
+use Rattle.fsync_relink.specs.world_write_laws.list_laws.Members.{In}
+use Rattle.fsync_relink.specs.world_write_laws.world_model.Jobs.{Job, JobsStand, live_claims}
+use Rattle.fsync_relink.specs.world_write_laws.world_model.Stands.{IsUsed, LogStands, number, Stands}
+use Rattle.fsync_relink.specs.world_write_laws.world_model.JobLaws.{live_used}
+use Rattle.fsync_relink.specs.world_write_laws.world_model.Landed.{NodeStands-same, SameFile}
+use Rattle.fsync_relink.specs.world_write_laws.world_model.Latest.{latest-In}
+use Rattle.fsync_relink.specs.world_write_laws.world_model.TreeRules.{used_below}
+use Rattle.fsync_relink.specs.world_write_laws.PlaceSteps.{staging_below}
+use Rattle.fsync_relink.specs.world_write_laws.world_step_laws.Worlds.{IsWorld}
 
 -- the bytes of each block that a map has
 pub record SameNamed (v : Volume) (f g : Words) : Type 0 where

@@ -4,43 +4,43 @@ use Rattle.std.proofs.Common.{arith, ap, ◌∙◌, sym, subst, inl, inr}
 use Rattle.std.proofs.lemmas.List.{length-append}
 use Rattle.std.proofs.lemmas.List.Elements.{Contains-append_left}
 use Rattle.k_split_laws.specs.world_image_laws.Settings.{setting_run}
-use Rattle.relink_laws.specs.world_write_laws.pm_model.declared.Cell.{Cell}
-use Rattle.relink_laws.specs.world_write_laws.pm_model.Cells.{cell, is_lent}
-use Rattle.relink_laws.specs.world_write_laws.pm_model.ImageLaws.{IsImage-words_of}
-use Rattle.relink_laws.specs.world_write_laws.pm_model.Images.{words_of}
-use Rattle.relink_laws.specs.world_write_laws.pm_model.Words.{line_bytes, Words}
-use Rattle.relink_laws.specs.world_write_laws.layout_model.declared.lines.Draft.{Draft}
-use Rattle.relink_laws.specs.world_write_laws.layout_model.declared.lines.Kind.TheVariants.{File}
-use Rattle.relink_laws.specs.world_write_laws.layout_model.Entries.{held_seq, is_self_valid}
-use Rattle.relink_laws.specs.world_write_laws.layout_model.Places.{Geometry, log_line, reserve}
-use Rattle.relink_laws.specs.world_write_laws.image_model.Content.{size_by}
-use Rattle.relink_laws.specs.world_write_laws.image_model.Live.{latest}
-use Rattle.relink_laws.specs.world_write_laws.image_model.Room.{unused_blocks}
-use Rattle.relink_laws.specs.world_write_laws.image_model.Volume.{inode, Volume}
+use Rattle.fsync_relink.specs.world_write_laws.pm_model.declared.Cell.{Cell}
+use Rattle.fsync_relink.specs.world_write_laws.pm_model.Cells.{cell, is_lent}
+use Rattle.fsync_relink.specs.world_write_laws.pm_model.ImageLaws.{IsImage-words_of}
+use Rattle.fsync_relink.specs.world_write_laws.pm_model.Images.{words_of}
+use Rattle.fsync_relink.specs.world_write_laws.pm_model.Words.{line_bytes, Words}
+use Rattle.fsync_relink.specs.world_write_laws.layout_model.declared.lines.Draft.{Draft}
+use Rattle.fsync_relink.specs.world_write_laws.layout_model.declared.lines.Kind.TheVariants.{File}
+use Rattle.fsync_relink.specs.world_write_laws.layout_model.Entries.{held_seq, is_self_valid}
+use Rattle.fsync_relink.specs.world_write_laws.layout_model.Places.{Geometry, log_line, reserve}
+use Rattle.fsync_relink.specs.world_write_laws.image_model.Content.{size_by}
+use Rattle.fsync_relink.specs.world_write_laws.image_model.Live.{latest}
+use Rattle.fsync_relink.specs.world_write_laws.image_model.Room.{unused_blocks}
+use Rattle.fsync_relink.specs.world_write_laws.image_model.Volume.{inode, Volume}
 use Rattle.live_model.specs.file_table.Files.{runs_in, size_in}
 use Rattle.live_model.specs.Flying.{IsOut}
 use Rattle.live_model.specs.world_model.HeldLaws.{AreSizes}
 use Rattle.live_model.specs.write_jobs.Blocks.{AreOut}
-use Rattle.relink_laws.proofs.k_plans_proofs.FreeCounts.{unwaiting-counted}
-use Rattle.relink_laws.specs.world_write_laws.k_split_model.Stands.{Stands}
-use Rattle.relink_laws.specs.world_write_laws.k_split_model.View.{View}
-use Rattle.relink_laws.specs.k_split.Answers.{IsOff}
-use Rattle.relink_laws.specs.k_split.MapChanges.{ChangesMaps, free_blocks_in, IsMapCut, IsMapDone, IsPreallocatedWith}
-use Rattle.relink_laws.specs.world_write_laws.list_laws.Members.{In}
+use Rattle.fsync_relink.proofs.k_plans_proofs.FreeCounts.{unwaiting-counted}
+use Rattle.fsync_relink.specs.world_write_laws.k_split_model.Stands.{Stands}
+use Rattle.fsync_relink.specs.world_write_laws.k_split_model.View.{View}
+use Rattle.fsync_relink.specs.k_split.Answers.{IsOff}
+use Rattle.fsync_relink.specs.k_split.MapChanges.{ChangesMaps, free_blocks_in, IsMapCut, IsMapDone, IsPreallocatedWith}
+use Rattle.fsync_relink.specs.world_write_laws.list_laws.Members.{In}
 use Rattle.live_model.specs.Overlays.{IsOverlayOf, run_of}
-use Rattle.relink_laws.specs.world_write_laws.posix_types.declared.item.Item.{Item}
-use Rattle.relink_laws.specs.world_write_laws.posix_tables.Open.{Tables}
-use Rattle.relink_laws.specs.world_write_laws.posix_spec.Run.{Unfinished, run}
-use Rattle.relink_laws.specs.world_write_laws.posix_spec.State.{State}
+use Rattle.fsync_relink.specs.world_write_laws.posix_types.declared.item.Item.{Item}
+use Rattle.fsync_relink.specs.world_write_laws.posix_tables.Open.{Tables}
+use Rattle.fsync_relink.specs.world_write_laws.posix_spec.Run.{Unfinished, run}
+use Rattle.fsync_relink.specs.world_write_laws.posix_spec.State.{State}
 use Rattle.live_model.specs.staging_files.declared.runs.StageRun.{StageRun}
 use Rattle.live_model.specs.staging_files.Keeps.{Agrees, AreApart, AreFreeSingle, IsKeptEmpty, IsRunSingle, IsStaged, IsStaging, IsThere, Staged}
 use Rattle.live_model.specs.staging_files.Reserves.{IsFreeRun, IsGiven, IsTaken, share, wanted, with_out}
 use Rattle.live_model.proofs.staging_files_proofs.AgreeLaws.{agrees-given, agrees-taken, run-single-given, run-single-taken, single-given, single-taken, there-given, there-taken}
 use Rattle.live_model.proofs.staging_files_proofs.RoomLaws.{share-fits, share-leaves}
 use Rattle.live_model.proofs.staging_files_proofs.StagedLaws.{apart-empty, apart-free, staged-given, staged-taken}
-use Rattle.relink_laws.specs.world_write_laws.world_model.Jobs.{unfinished_call, Job, live_claims, staged_block}
-use Rattle.relink_laws.specs.world_write_laws.world_model.Stands.{entries_of, IsSane}
-use Rattle.relink_laws.specs.world_write_laws.Restages.{Restages}
+use Rattle.fsync_relink.specs.world_write_laws.world_model.Jobs.{unfinished_call, Job, live_claims, staged_block}
+use Rattle.fsync_relink.specs.world_write_laws.world_model.Stands.{entries_of, IsSane}
+use Rattle.fsync_relink.specs.world_write_laws.Restages.{Restages}
 use Rattle.k_split_laws.specs.world_image_laws.Images.{HasRoom, StandsFor}
 use Rattle.k_split_laws.specs.world_image_laws.Back.{IsKeptBack}
 use Rattle.k_split_laws.specs.world_image_laws.Flights.{leads_before, promise_at_begin}

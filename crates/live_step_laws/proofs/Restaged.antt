@@ -4,50 +4,50 @@ use Rattle.std.proofs.Common.{arith, ap, ◌∙◌, sym, subst, inl, inr}
 use Rattle.std.proofs.lemmas.Bool.{and_parts, cases_eq, cases_lt}
 use Rattle.std.proofs.lemmas.Bool.Decides.{nat_tests}
 use Rattle.std.proofs.lemmas.List.{get_or-append-add, length-append}
-use Rattle.relink_laws.specs.world_write_laws.pm_model.ImageLaws.{IsImage-words_of}
-use Rattle.relink_laws.specs.world_write_laws.pm_model.Images.{words_of}
-use Rattle.relink_laws.specs.world_write_laws.layout_model.Journal.{journaled}
-use Rattle.relink_laws.specs.world_write_laws.layout_model.Places.{data_blocks, Geometry, reserve}
-use Rattle.relink_laws.specs.world_write_laws.layout_model.declared.lines.Draft.{Draft}
-use Rattle.relink_laws.specs.world_write_laws.layout_model.declared.lines.Inode.{Inode}
-use Rattle.relink_laws.specs.world_write_laws.layout_model.declared.lines.Kind.TheVariants.{File, Staging}
-use Rattle.relink_laws.specs.world_write_laws.layout_model.Entries.{is_draft}
-use Rattle.relink_laws.specs.world_write_laws.image_model.Live.{is_file, is_live, is_of_file}
-use Rattle.relink_laws.specs.world_write_laws.image_model.Placed.{block_at}
-use Rattle.relink_laws.specs.world_write_laws.image_model.Reading.{inode_set}
-use Rattle.relink_laws.specs.world_write_laws.image_model.Room.{unused_blocks}
-use Rattle.relink_laws.specs.world_write_laws.image_model.Rules.{file_blocks_of}
-use Rattle.relink_laws.specs.world_write_laws.image_model.Volume.{chain, extents, inode, Volume}
-use Rattle.relink_laws.specs.world_write_laws.extent_model.Counts.{block_count-mapped, count_below-agree, count_below-range, is_mapped}
-use Rattle.relink_laws.specs.world_write_laws.extent_model.Covers.{covers-disk_at}
-use Rattle.relink_laws.specs.world_write_laws.extent_model.declared.extent_words.Extent.{Extent}
-use Rattle.relink_laws.specs.world_write_laws.extent_model.Extents.{block_count, disk_at, is_within}
-use Rattle.relink_laws.specs.world_write_laws.volume_laws.Changes.{chain-set_same, inode-set_same}
-use Rattle.relink_laws.specs.volume_change_laws.Switches.{unused-data}
-use Rattle.relink_laws.specs.volume_change_laws.Shorts.{in_order-below, length-below}
-use Rattle.relink_laws.specs.world_write_laws.volume_laws.PoolLaws.{AreInData, unused-set, unused-uncovered}
-use Rattle.relink_laws.specs.world_write_laws.list_laws.Filters.{filter-agree}
-use Rattle.relink_laws.specs.world_write_laws.list_laws.Members.{In}
-use Rattle.relink_laws.specs.k_split_model.MapChangesChanges.{aged, HasInOrder, in_order, IsPreallocated}
-use Rattle.relink_laws.specs.k_split_model.Taken.{with_map}
-use Rattle.relink_laws.specs.k_map_plans.Plans.{IsStagingFile}
-use Rattle.relink_laws.specs.block_pool.FreeSets.{is_among}
-use Rattle.relink_laws.specs.world_write_laws.volume_laws.Uses.{is_unused}
-use Rattle.relink_laws.specs.k_plans.Whole.{IsWhole}
-use Rattle.relink_laws.specs.world_write_laws.k_split_model.View.{View}
-use Rattle.relink_laws.specs.k_split.MapChanges.{is_free_in, IsPreallocatedWith}
-use Rattle.relink_laws.specs.world_write_laws.posix_tables.Open.{Tables}
-use Rattle.relink_laws.specs.world_write_laws.posix_spec.State.{State}
+use Rattle.fsync_relink.specs.world_write_laws.pm_model.ImageLaws.{IsImage-words_of}
+use Rattle.fsync_relink.specs.world_write_laws.pm_model.Images.{words_of}
+use Rattle.fsync_relink.specs.world_write_laws.layout_model.Journal.{journaled}
+use Rattle.fsync_relink.specs.world_write_laws.layout_model.Places.{data_blocks, Geometry, reserve}
+use Rattle.fsync_relink.specs.world_write_laws.layout_model.declared.lines.Draft.{Draft}
+use Rattle.fsync_relink.specs.world_write_laws.layout_model.declared.lines.Inode.{Inode}
+use Rattle.fsync_relink.specs.world_write_laws.layout_model.declared.lines.Kind.TheVariants.{File, Staging}
+use Rattle.fsync_relink.specs.world_write_laws.layout_model.Entries.{is_draft}
+use Rattle.fsync_relink.specs.world_write_laws.image_model.Live.{is_file, is_live, is_of_file}
+use Rattle.fsync_relink.specs.world_write_laws.image_model.Placed.{block_at}
+use Rattle.fsync_relink.specs.world_write_laws.image_model.Reading.{inode_set}
+use Rattle.fsync_relink.specs.world_write_laws.image_model.Room.{unused_blocks}
+use Rattle.fsync_relink.specs.world_write_laws.image_model.Rules.{file_blocks_of}
+use Rattle.fsync_relink.specs.world_write_laws.image_model.Volume.{chain, extents, inode, Volume}
+use Rattle.fsync_relink.specs.world_write_laws.extent_model.Counts.{block_count-mapped, count_below-agree, count_below-range, is_mapped}
+use Rattle.fsync_relink.specs.world_write_laws.extent_model.Covers.{covers-disk_at}
+use Rattle.fsync_relink.specs.world_write_laws.extent_model.declared.extent_words.Extent.{Extent}
+use Rattle.fsync_relink.specs.world_write_laws.extent_model.Extents.{block_count, disk_at, is_within}
+use Rattle.fsync_relink.specs.world_write_laws.volume_laws.Changes.{chain-set_same, inode-set_same}
+use Rattle.fsync_relink.specs.volume_change_laws.Switches.{unused-data}
+use Rattle.fsync_relink.specs.volume_change_laws.Shorts.{in_order-below, length-below}
+use Rattle.fsync_relink.specs.world_write_laws.volume_laws.PoolLaws.{AreInData, unused-set, unused-uncovered}
+use Rattle.fsync_relink.specs.world_write_laws.list_laws.Filters.{filter-agree}
+use Rattle.fsync_relink.specs.world_write_laws.list_laws.Members.{In}
+use Rattle.fsync_relink.specs.k_split_model.MapChangesChanges.{aged, HasInOrder, in_order, IsPreallocated}
+use Rattle.fsync_relink.specs.k_split_model.Taken.{with_map}
+use Rattle.fsync_relink.specs.k_map_plans.Plans.{IsStagingFile}
+use Rattle.fsync_relink.specs.block_pool.FreeSets.{is_among}
+use Rattle.fsync_relink.specs.world_write_laws.volume_laws.Uses.{is_unused}
+use Rattle.fsync_relink.specs.k_plans.Whole.{IsWhole}
+use Rattle.fsync_relink.specs.world_write_laws.k_split_model.View.{View}
+use Rattle.fsync_relink.specs.k_split.MapChanges.{is_free_in, IsPreallocatedWith}
+use Rattle.fsync_relink.specs.world_write_laws.posix_tables.Open.{Tables}
+use Rattle.fsync_relink.specs.world_write_laws.posix_spec.State.{State}
 use Rattle.live_model.specs.staging_files.Keeps.{IsKeptEmpty, IsStaging}
 use Rattle.live_model.proofs.staging_files_proofs.GiveUpLaws.{staging-file}
-use Rattle.relink_laws.specs.world_write_laws.world_model.Jobs.{Job, JobsStand, JobStands, live_claims, staged_block}
+use Rattle.fsync_relink.specs.world_write_laws.world_model.Jobs.{Job, JobsStand, JobStands, live_claims, staged_block}
 use Rattle.k_split_laws.specs.world_image_laws.Images.{HasRoom}
 use Rattle.k_split_laws.specs.world_image_laws.ImagesLaws.{Takes}
 use Rattle.k_split_laws.specs.world_image_laws.LentLaws.{SameBlocks}
-use Rattle.relink_laws.proofs.StagingLaws.{restages-filled}
-use Rattle.relink_laws.specs.world_write_laws.Restages.{Restages}
-use Rattle.relink_laws.specs.world_write_laws.StagingSteps.{restaged}
-use Rattle.relink_laws.specs.world_write_laws.world_step_laws.Worlds.{IsWorld}
+use Rattle.fsync_relink.proofs.StagingLaws.{restages-filled}
+use Rattle.fsync_relink.specs.world_write_laws.Restages.{Restages}
+use Rattle.fsync_relink.specs.world_write_laws.StagingSteps.{restaged}
+use Rattle.fsync_relink.specs.world_write_laws.world_step_laws.Worlds.{IsWorld}
 use Rattle.live_model.specs.Standing.{Kept, StandsAt}
 use Rattle.live_step_laws.specs.Changes.{AreSpare}
 

@@ -2,21 +2,21 @@
 use Rattle.std.specs.Prelude.{◌≡◌, ◌≢◌, ◌⊎◌, ◌≤◌, ◌<◌, ℕ, ◌+◌, ◌*◌, ◌/◌, ◌%◌, ◌^◌, true, false, List, length}
 use Rattle.std.proofs.Common.{arith, ap, ◌∙◌, sym, subst, inl, inr}
 use Rattle.std.proofs.lemmas.Bool.Decides.{nat_tests}
-use Rattle.relink_laws.specs.world_write_laws.pm_model.Bytes.{line_bytes-same}
-use Rattle.relink_laws.specs.world_write_laws.pm_model.Words.{byte_of, line_bytes, Words}
-use Rattle.relink_laws.specs.world_write_laws.layout_model.Journal.{is_journal_word, IsSound, journaled}
-use Rattle.relink_laws.specs.world_write_laws.layout_model.PlaceLaws.{behind_log-not_journaled}
-use Rattle.relink_laws.specs.world_write_laws.layout_model.Places.{base_word, commit_word, first_data, Geometry, is_data_block, log_block, log_line, state_line}
-use Rattle.relink_laws.specs.world_write_laws.layout_model.Superblock.{geometry_at, has_magic, has_numbers, has_version}
-use Rattle.relink_laws.specs.world_write_laws.image_model.Placed.{block_at, IsOutside}
-use Rattle.relink_laws.specs.world_write_laws.image_model.Reading.{Reads}
-use Rattle.relink_laws.specs.world_write_laws.image_model.Rules.{geometry_of, HasTarget}
-use Rattle.relink_laws.specs.world_write_laws.image_model.Volume.{Volume}
-use Rattle.relink_laws.specs.world_write_laws.volume_laws.Footprint.{SameLog}
-use Rattle.relink_laws.specs.world_write_laws.volume_laws.ImageLaws.{journaled-other}
-use Rattle.relink_laws.specs.world_write_laws.volume_laws.LineWords.{data_word}
+use Rattle.fsync_relink.specs.world_write_laws.pm_model.Bytes.{line_bytes-same}
+use Rattle.fsync_relink.specs.world_write_laws.pm_model.Words.{byte_of, line_bytes, Words}
+use Rattle.fsync_relink.specs.world_write_laws.layout_model.Journal.{is_journal_word, IsSound, journaled}
+use Rattle.fsync_relink.specs.world_write_laws.layout_model.PlaceLaws.{behind_log-not_journaled}
+use Rattle.fsync_relink.specs.world_write_laws.layout_model.Places.{base_word, commit_word, first_data, Geometry, is_data_block, log_block, log_line, state_line}
+use Rattle.fsync_relink.specs.world_write_laws.layout_model.Superblock.{geometry_at, has_magic, has_numbers, has_version}
+use Rattle.fsync_relink.specs.world_write_laws.image_model.Placed.{block_at, IsOutside}
+use Rattle.fsync_relink.specs.world_write_laws.image_model.Reading.{Reads}
+use Rattle.fsync_relink.specs.world_write_laws.image_model.Rules.{geometry_of, HasTarget}
+use Rattle.fsync_relink.specs.world_write_laws.image_model.Volume.{Volume}
+use Rattle.fsync_relink.specs.world_write_laws.volume_laws.Footprint.{SameLog}
+use Rattle.fsync_relink.specs.world_write_laws.volume_laws.ImageLaws.{journaled-other}
+use Rattle.fsync_relink.specs.world_write_laws.volume_laws.LineWords.{data_word}
 use Rattle.k_split_laws.specs.world_image_laws.image_laws.ViewLaws.{head_word, sound-targets}
-use Rattle.relink_laws.specs.world_write_laws.k_split_model.Stands.{IsOldOrNew}
+use Rattle.fsync_relink.specs.world_write_laws.k_split_model.Stands.{IsOldOrNew}
 use Rattle.k_split_laws.specs.world_image_laws.Images.{IsHeaded}
 
 -- ---- places

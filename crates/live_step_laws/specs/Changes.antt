@@ -1,12 +1,12 @@
 -- A change that writes blocks.
 use Rattle.std.specs.Prelude.{◌≡◌, ◌≢◌, ◌<◌, ℕ, true, List, length, Some}
-use Rattle.relink_laws.specs.world_write_laws.pm_model.declared.Cell.{Cell}
-use Rattle.relink_laws.specs.world_write_laws.pm_model.Images.{Follows}
-use Rattle.relink_laws.specs.world_write_laws.layout_model.Places.{is_data_block}
-use Rattle.relink_laws.specs.world_write_laws.image_model.Placed.{block_at}
-use Rattle.relink_laws.specs.world_write_laws.image_model.Volume.{extents, Volume}
-use Rattle.relink_laws.specs.world_write_laws.extent_model.Extents.{disk_at}
-use Rattle.relink_laws.specs.world_write_laws.k_split_model.Stands.{IsOldOrNew}
+use Rattle.fsync_relink.specs.world_write_laws.pm_model.declared.Cell.{Cell}
+use Rattle.fsync_relink.specs.world_write_laws.pm_model.Images.{Follows}
+use Rattle.fsync_relink.specs.world_write_laws.layout_model.Places.{is_data_block}
+use Rattle.fsync_relink.specs.world_write_laws.image_model.Placed.{block_at}
+use Rattle.fsync_relink.specs.world_write_laws.image_model.Volume.{extents, Volume}
+use Rattle.fsync_relink.specs.world_write_laws.extent_model.Extents.{disk_at}
+use Rattle.fsync_relink.specs.world_write_laws.k_split_model.Stands.{IsOldOrNew}
 
 -- Data blocks that no map of the volume has.
 pub record AreSpare (blocks : List ℕ) (v : Volume) : Type 0 where

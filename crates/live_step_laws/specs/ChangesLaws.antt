@@ -1,16 +1,16 @@
 -- Changes that write spare blocks, each law as one statement.
 use Rattle.std.specs.Prelude.{◌≢◌, ℕ, List, [], ◌∷◌}
-use Rattle.relink_laws.specs.world_write_laws.pm_model.declared.Cell.{Cell}
-use Rattle.relink_laws.specs.world_write_laws.pm_model.Images.{IsImage}
-use Rattle.relink_laws.specs.world_write_laws.pm_model.Words.{Words}
-use Rattle.relink_laws.specs.world_write_laws.layout_model.declared.lines.Draft.{Draft}
-use Rattle.relink_laws.specs.world_write_laws.image_model.Volume.{Volume}
-use Rattle.relink_laws.specs.world_write_laws.k_split_model.Stands.{Stands}
-use Rattle.relink_laws.specs.world_write_laws.posix_types.declared.call.Mode.{Mode}
-use Rattle.relink_laws.specs.world_write_laws.posix_types.declared.item.Item.{Item}
-use Rattle.relink_laws.specs.world_write_laws.posix_spec.Run.{Unfinished}
-use Rattle.relink_laws.specs.world_write_laws.posix_spec.State.{State}
-use Rattle.relink_laws.specs.world_write_laws.world_model.Jobs.{Job}
+use Rattle.fsync_relink.specs.world_write_laws.pm_model.declared.Cell.{Cell}
+use Rattle.fsync_relink.specs.world_write_laws.pm_model.Images.{IsImage}
+use Rattle.fsync_relink.specs.world_write_laws.pm_model.Words.{Words}
+use Rattle.fsync_relink.specs.world_write_laws.layout_model.declared.lines.Draft.{Draft}
+use Rattle.fsync_relink.specs.world_write_laws.image_model.Volume.{Volume}
+use Rattle.fsync_relink.specs.world_write_laws.k_split_model.Stands.{Stands}
+use Rattle.fsync_relink.specs.world_write_laws.posix_types.declared.call.Mode.{Mode}
+use Rattle.fsync_relink.specs.world_write_laws.posix_types.declared.item.Item.{Item}
+use Rattle.fsync_relink.specs.world_write_laws.posix_spec.Run.{Unfinished}
+use Rattle.fsync_relink.specs.world_write_laws.posix_spec.State.{State}
+use Rattle.fsync_relink.specs.world_write_laws.world_model.Jobs.{Job}
 use Rattle.k_split_laws.specs.world_image_laws.Images.{HasLogHome, HasRoom, IsHeaded, StandsFor}
 use Rattle.k_split_laws.specs.world_image_laws.ImagesLaws.{Takes}
 use Rattle.k_split_laws.specs.world_image_laws.Back.{IsKeptBack}

@@ -1,29 +1,29 @@
 -- Holes of a file get blocks of zeros while writes are in flight, each law as one statement.
 use Rattle.std.specs.Prelude.{◌≡◌, ◌≢◌, ◌≤◌, ◌+◌, ℕ, Bool, false, List, [], ◌∷◌, length, Ok}
-use Rattle.relink_laws.specs.world_write_laws.pm_model.declared.Cell.{Cell}
-use Rattle.relink_laws.specs.world_write_laws.pm_model.Images.{IsImage}
-use Rattle.relink_laws.specs.world_write_laws.pm_model.Words.{Words}
-use Rattle.relink_laws.specs.world_write_laws.layout_model.declared.lines.Draft.{Draft}
-use Rattle.relink_laws.specs.world_write_laws.layout_model.declared.lines.Kind.TheVariants.{File}
-use Rattle.relink_laws.specs.world_write_laws.extent_model.Extents.{disk_at, is_within}
-use Rattle.relink_laws.specs.world_write_laws.layout_model.Journal.{journaled}
-use Rattle.relink_laws.specs.world_write_laws.layout_model.Places.{Geometry, reserve}
-use Rattle.relink_laws.specs.world_write_laws.image_model.Reading.{Reads}
-use Rattle.relink_laws.specs.world_write_laws.image_model.Room.{unused_blocks}
-use Rattle.relink_laws.specs.world_write_laws.image_model.Volume.{chain, extents, inode, Volume}
-use Rattle.relink_laws.specs.world_write_laws.block_counts.Counts.{chains_for}
-use Rattle.relink_laws.specs.world_write_laws.k_split_model.MapChangesChanges.{holes}
-use Rattle.relink_laws.specs.world_write_laws.k_split_model.Stands.{Stands}
-use Rattle.relink_laws.specs.world_write_laws.k_split_model.View.{View}
-use Rattle.relink_laws.specs.world_write_laws.list_laws.Members.{In}
-use Rattle.relink_laws.specs.world_write_laws.posix_types.declared.call.Mode.{Mode}
-use Rattle.relink_laws.specs.world_write_laws.posix_types.declared.item.Item.{Item}
-use Rattle.relink_laws.specs.world_write_laws.posix_tables.Open.{Tables}
-use Rattle.relink_laws.specs.world_write_laws.posix_spec.Run.{Unfinished, run}
-use Rattle.relink_laws.specs.world_write_laws.posix_spec.State.{State}
-use Rattle.relink_laws.specs.world_write_laws.world_model.Jobs.{Job}
-use Rattle.relink_laws.specs.world_write_laws.world_step_laws.Worlds.{IsWorld}
-use Rattle.relink_laws.specs.world_write_laws.HolesLaws.{FillsHoles}
+use Rattle.fsync_relink.specs.world_write_laws.pm_model.declared.Cell.{Cell}
+use Rattle.fsync_relink.specs.world_write_laws.pm_model.Images.{IsImage}
+use Rattle.fsync_relink.specs.world_write_laws.pm_model.Words.{Words}
+use Rattle.fsync_relink.specs.world_write_laws.layout_model.declared.lines.Draft.{Draft}
+use Rattle.fsync_relink.specs.world_write_laws.layout_model.declared.lines.Kind.TheVariants.{File}
+use Rattle.fsync_relink.specs.world_write_laws.extent_model.Extents.{disk_at, is_within}
+use Rattle.fsync_relink.specs.world_write_laws.layout_model.Journal.{journaled}
+use Rattle.fsync_relink.specs.world_write_laws.layout_model.Places.{Geometry, reserve}
+use Rattle.fsync_relink.specs.world_write_laws.image_model.Reading.{Reads}
+use Rattle.fsync_relink.specs.world_write_laws.image_model.Room.{unused_blocks}
+use Rattle.fsync_relink.specs.world_write_laws.image_model.Volume.{chain, extents, inode, Volume}
+use Rattle.fsync_relink.specs.world_write_laws.block_counts.Counts.{chains_for}
+use Rattle.fsync_relink.specs.world_write_laws.k_split_model.MapChangesChanges.{holes}
+use Rattle.fsync_relink.specs.world_write_laws.k_split_model.Stands.{Stands}
+use Rattle.fsync_relink.specs.world_write_laws.k_split_model.View.{View}
+use Rattle.fsync_relink.specs.world_write_laws.list_laws.Members.{In}
+use Rattle.fsync_relink.specs.world_write_laws.posix_types.declared.call.Mode.{Mode}
+use Rattle.fsync_relink.specs.world_write_laws.posix_types.declared.item.Item.{Item}
+use Rattle.fsync_relink.specs.world_write_laws.posix_tables.Open.{Tables}
+use Rattle.fsync_relink.specs.world_write_laws.posix_spec.Run.{Unfinished, run}
+use Rattle.fsync_relink.specs.world_write_laws.posix_spec.State.{State}
+use Rattle.fsync_relink.specs.world_write_laws.world_model.Jobs.{Job}
+use Rattle.fsync_relink.specs.world_write_laws.world_step_laws.Worlds.{IsWorld}
+use Rattle.fsync_relink.specs.world_write_laws.HolesLaws.{FillsHoles}
 use Rattle.k_split_laws.specs.world_image_laws.Images.{HasRoom, StandsFor}
 use Rattle.k_split_laws.specs.world_image_laws.Back.{IsKeptBack}
 use Rattle.k_split_laws.specs.world_image_laws.LentLaws.{AreFound, LeadsTo, SameBlocks}

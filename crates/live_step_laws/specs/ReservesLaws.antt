@@ -1,17 +1,17 @@
 -- What reserving a run leaves of a World with writes in flight, each law as one statement.
 use Rattle.std.specs.Prelude.{◌≡◌, ◌≤◌, ◌+◌, ℕ, Bool, Contains, List, [], ◌∷◌, length, Result, Ok, Err}
-use Rattle.relink_laws.specs.world_write_laws.layout_model.Places.{Geometry, reserve}
-use Rattle.relink_laws.specs.world_write_laws.image_model.Room.{unused_blocks}
-use Rattle.relink_laws.specs.world_write_laws.k_split_model.View.{View}
-use Rattle.relink_laws.specs.world_write_laws.posix_types.declared.item.Item.{Item}
-use Rattle.relink_laws.specs.world_write_laws.posix_tables.Open.{Tables}
-use Rattle.relink_laws.specs.world_write_laws.posix_spec.Run.{Unfinished, run}
-use Rattle.relink_laws.specs.world_write_laws.posix_spec.State.{State}
+use Rattle.fsync_relink.specs.world_write_laws.layout_model.Places.{Geometry, reserve}
+use Rattle.fsync_relink.specs.world_write_laws.image_model.Room.{unused_blocks}
+use Rattle.fsync_relink.specs.world_write_laws.k_split_model.View.{View}
+use Rattle.fsync_relink.specs.world_write_laws.posix_types.declared.item.Item.{Item}
+use Rattle.fsync_relink.specs.world_write_laws.posix_tables.Open.{Tables}
+use Rattle.fsync_relink.specs.world_write_laws.posix_spec.Run.{Unfinished, run}
+use Rattle.fsync_relink.specs.world_write_laws.posix_spec.State.{State}
 use Rattle.live_model.specs.staging_files.declared.runs.StageFault.{StageFault}
 use Rattle.live_model.specs.staging_files.declared.runs.StageRun.{StageRun}
 use Rattle.live_model.specs.staging_files.Keeps.{AreApart, IsRunSingle, IsThere, Staged}
 use Rattle.live_model.specs.staging_files.Reserves.{IsReserveAnswer}
-use Rattle.relink_laws.specs.world_write_laws.world_model.Jobs.{live_claims}
+use Rattle.fsync_relink.specs.world_write_laws.world_model.Jobs.{live_claims}
 use Rattle.live_model.specs.Losses.{KeepsWhenLost}
 use Rattle.live_model.specs.Standing.{Kept, StandsAt}
 

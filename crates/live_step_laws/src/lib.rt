@@ -10,7 +10,7 @@
 //! - `reserves`: A run of staging blocks is reserved while writes are in flight.
 //! - `fills`: Holes of a file are filled while writes are in flight.
 //!
-//! Stands on `k_split_laws`, `live_model`, `relink_laws` and `k_split`.
+//! Stands on `k_split_laws`, `live_model`, `fsync_relink` and `k_split`.
 #![tactic(auto)]
 
 mod begins;

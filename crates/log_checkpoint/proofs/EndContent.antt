@@ -41,9 +41,9 @@ use Rattle.staging_files.specs.GivesUp.{AreGivenUp}
 use Rattle.staging_files.specs.Keeps.{Staged}
 use Rattle.staging_files.specs.volume_laws.Footprint.{SameLog}
 use Rattle.staging_files.specs.volume_laws.FootprintLaws.{content-own, live_entries-same}
-use Rattle.fsync_relink.proofs.relink_laws_proofs.StagingLaws.{keeps-content-given_up, restages-given_up, stays-dead}
-use Rattle.fsync_relink.proofs.relink_laws_proofs.WorldLaws.{sane-in-order}
-use Rattle.fsync_relink.specs.relink_laws.Images.{IsRestaged}
+use Rattle.fsync_relink.proofs.StagingLaws.{keeps-content-given_up, restages-given_up, stays-dead}
+use Rattle.fsync_relink.proofs.WorldLaws.{sane-in-order}
+use Rattle.fsync_relink.specs.Images.{IsRestaged}
 use Rattle.log_checkpoint.specs.Gathers.{AreAllDone, IsGatherAnswer, IsLapAnswer, MayGather}
 use Rattle.log_checkpoint.specs.Logged.{KeepsLoggedContent}
 use Rattle.log_checkpoint.proofs.Content.{all-logged, done-content, IsLoggedFrom, no-later-same, no-later-words, Shows, ShowsSame, up-to-content}

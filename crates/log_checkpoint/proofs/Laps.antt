@@ -12,7 +12,7 @@ use Rattle.staging_files.specs.k_split.Laps.{HasNextLap, next_base}
 use Rattle.staging_files.proofs.GiveUpLaws.{staging-file}
 use Rattle.staging_files.specs.GivesUp.{AllStagedSingle, AreGivenUp}
 use Rattle.staging_files.specs.Keeps.{Staged}
-use Rattle.fsync_relink.proofs.relink_laws_proofs.RelinkLaws.{has-chain}
+use Rattle.fsync_relink.proofs.RelinkLaws.{has-chain}
 use Rattle.log_checkpoint.specs.Gathers.{AreAllDone, IsGatherAnswer, IsLapAnswer}
 
 -- ---- what it asks for, once all files are published

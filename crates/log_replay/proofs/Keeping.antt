@@ -38,7 +38,7 @@ use Rattle.staging_files.specs.k_split.MapChanges.{ChangesMaps, is_free_in, IsMa
 use Rattle.staging_files.specs.list_laws.Filters.{In-filter, In-filter_map, In-range}
 use Rattle.staging_files.specs.list_laws.Members.{In}
 use Rattle.log_replay.proofs.Passed.{free-data, free-uncovered, headed-beside, kept-beside, log-beside}
-use Rattle.relink_laws.specs.log_laws.world_model.Landed.{kind_file}
+use Rattle.fsync_relink.specs.log_laws.world_model.Landed.{kind_file}
 use Rattle.log_replay.specs.Replays.{seen, ShowsTheSame}
 use Rattle.k_check.specs.volume_laws.Footprint.{SameData, SameLog}
 use Rattle.k_check.specs.volume_laws.FootprintLaws.{content-own, content-read, live_entries-same}

@@ -28,7 +28,7 @@ use Rattle.staging_files.specs.k_split_model.View.{View}
 use Rattle.staging_files.specs.k_split.Laps.{next_base}
 use Rattle.staging_files.specs.k_split.Order.{IsOpened}
 use Rattle.log_replay.specs.Replays.{IsReplayed, MayReplay, seen, ShowsTheSame}
-use Rattle.relink_laws.specs.log_laws.Orders.{AreInOrder}
+use Rattle.fsync_relink.specs.log_laws.Orders.{AreInOrder}
 use Rattle.staging_files.specs.Keeps.{IsStaging}
 use Rattle.k_check.specs.volume_laws.ReadingLaws.{reads-volume}
 use Rattle.world_image_laws.specs.Changed.{sound_headed}

@@ -3,32 +3,32 @@ use Rattle.std.proofs.Common.{◌≡◌, ◌<◌, ◌&&◌, not, ℕ, Bool, true
 use Rattle.std.specs.Prelude.{All, count_by}
 use Rattle.std.specs.List.{range_with_len}
 use Rattle.std.proofs.lemmas.Bool.Decides.{nat_tests}
-use Rattle.relink_laws.specs.log_laws.block_counts.Counts.{chains_for}
+use Rattle.fsync_relink.specs.log_laws.block_counts.Counts.{chains_for}
 use Rattle.k_split.specs.block_pool.FreeSets.{is_among}
-use Rattle.relink_laws.specs.log_laws.pm_model.Words.{Words}
-use Rattle.relink_laws.specs.log_laws.layout_model.Journal.{journaled}
-use Rattle.relink_laws.specs.log_laws.layout_model.Places.{base_word, commit_word, data_blocks, first_data, Geometry, is_data_block}
-use Rattle.relink_laws.specs.log_laws.image_model.Checked.{IsLogKept}
-use Rattle.relink_laws.specs.log_laws.image_model.Live.{valid_entries}
-use Rattle.relink_laws.specs.log_laws.image_model.Reading.{Reads}
-use Rattle.relink_laws.specs.log_laws.image_model.Room.{has_none, unused_blocks}
-use Rattle.relink_laws.specs.log_laws.image_model.Uses.{owners}
-use Rattle.relink_laws.specs.log_laws.image_model.Volume.{chain, extents, Volume}
-use Rattle.relink_laws.specs.log_laws.extent_model.Extents.{covers, IsCanonical}
-use Rattle.relink_laws.specs.log_laws.k_split_model.Stands.{IsOldOrNew}
-use Rattle.relink_laws.specs.log_laws.k_split_model.View.{View}
+use Rattle.fsync_relink.specs.log_laws.pm_model.Words.{Words}
+use Rattle.fsync_relink.specs.log_laws.layout_model.Journal.{journaled}
+use Rattle.fsync_relink.specs.log_laws.layout_model.Places.{base_word, commit_word, data_blocks, first_data, Geometry, is_data_block}
+use Rattle.fsync_relink.specs.log_laws.image_model.Checked.{IsLogKept}
+use Rattle.fsync_relink.specs.log_laws.image_model.Live.{valid_entries}
+use Rattle.fsync_relink.specs.log_laws.image_model.Reading.{Reads}
+use Rattle.fsync_relink.specs.log_laws.image_model.Room.{has_none, unused_blocks}
+use Rattle.fsync_relink.specs.log_laws.image_model.Uses.{owners}
+use Rattle.fsync_relink.specs.log_laws.image_model.Volume.{chain, extents, Volume}
+use Rattle.fsync_relink.specs.log_laws.extent_model.Extents.{covers, IsCanonical}
+use Rattle.fsync_relink.specs.log_laws.k_split_model.Stands.{IsOldOrNew}
+use Rattle.fsync_relink.specs.log_laws.k_split_model.View.{View}
 use Rattle.k_split.specs.MapChanges.{free_blocks_in, is_free_in}
 use Rattle.k_split.specs.Order.{IsInOrder}
 use Rattle.world_image_laws.specs.Images.{IsHeaded}
-use Rattle.relink_laws.proofs.log_laws_proofs.FoundLaws.{valid-same}
-use Rattle.relink_laws.proofs.log_laws_proofs.Heads.{headed-next}
-use Rattle.relink_laws.proofs.log_laws_proofs.Kept.{log-same}
-use Rattle.relink_laws.specs.log_laws.volume_laws.Footprint.{SameLog}
-use Rattle.relink_laws.specs.log_laws.volume_laws.Lists.{count_by-agree}
-use Rattle.relink_laws.specs.log_laws.volume_laws.Uses.{is_unused}
-use Rattle.relink_laws.proofs.ImageLaws.{same-log}
-use Rattle.relink_laws.proofs.RelinkLaws.{has-chain}
-use Rattle.relink_laws.proofs.WorldLaws.{free-in_data, free-unmapped}
+use Rattle.fsync_relink.proofs.log_laws_proofs.FoundLaws.{valid-same}
+use Rattle.fsync_relink.proofs.log_laws_proofs.Heads.{headed-next}
+use Rattle.fsync_relink.proofs.log_laws_proofs.Kept.{log-same}
+use Rattle.fsync_relink.specs.log_laws.volume_laws.Footprint.{SameLog}
+use Rattle.fsync_relink.specs.log_laws.volume_laws.Lists.{count_by-agree}
+use Rattle.fsync_relink.specs.log_laws.volume_laws.Uses.{is_unused}
+use Rattle.fsync_relink.proofs.ImageLaws.{same-log}
+use Rattle.fsync_relink.proofs.RelinkLaws.{has-chain}
+use Rattle.fsync_relink.proofs.WorldLaws.{free-in_data, free-unmapped}
 
 -- where no block waits, just those are free that nothing names
 pub free-unnamed : (k : View) → k.waiting ≡ [] → free_blocks_in k ≡ unused_blocks k.volume

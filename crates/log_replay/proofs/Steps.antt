@@ -5,60 +5,60 @@ use Rattle.std.proofs.lemmas.Bool.{and_parts, cases_lt}
 use Rattle.std.proofs.lemmas.Bool.Decides.{nat_tests}
 use Rattle.std.proofs.lemmas.List.{drop_all, get_or_past}
 use Rattle.std.proofs.lemmas.List.Elements.{All-append}
-use Rattle.relink_laws.specs.log_laws.pm_model.declared.Cell.{Cell}
-use Rattle.relink_laws.specs.log_laws.pm_model.CellLaws.{single-home}
-use Rattle.relink_laws.specs.log_laws.pm_model.Cells.{AllHome, AllSingle, cell}
-use Rattle.relink_laws.specs.log_laws.pm_model.ImageLaws.{Follows-from_words, image-single, IsImage-words_of}
-use Rattle.relink_laws.specs.log_laws.pm_model.Images.{Follows, IsImage, words_of}
-use Rattle.relink_laws.specs.log_laws.pm_model.Powers.{Steps, Supply}
-use Rattle.relink_laws.specs.log_laws.pm_model.Words.{line_bytes, Words}
+use Rattle.fsync_relink.specs.log_laws.pm_model.declared.Cell.{Cell}
+use Rattle.fsync_relink.specs.log_laws.pm_model.CellLaws.{single-home}
+use Rattle.fsync_relink.specs.log_laws.pm_model.Cells.{AllHome, AllSingle, cell}
+use Rattle.fsync_relink.specs.log_laws.pm_model.ImageLaws.{Follows-from_words, image-single, IsImage-words_of}
+use Rattle.fsync_relink.specs.log_laws.pm_model.Images.{Follows, IsImage, words_of}
+use Rattle.fsync_relink.specs.log_laws.pm_model.Powers.{Steps, Supply}
+use Rattle.fsync_relink.specs.log_laws.pm_model.Words.{line_bytes, Words}
 use Rattle.layout_model.specs.declared.lines.Draft.{Draft}
 use Rattle.layout_model.specs.declared.lines.Kind.{Kind}
 use Rattle.layout_model.specs.declared.lines.Kind.TheVariants.{File, Free, Staging}
 use Rattle.layout_model.specs.Entries.{is_draft}
 use Rattle.layout_model.specs.EntryLaws.{IsEntryLine-decode_entry}
 use Rattle.layout_model.specs.block_counts.declared.TheConstants.{LONGEST_FILE}
-use Rattle.relink_laws.specs.log_laws.layout_model.Journal.{journaled}
-use Rattle.relink_laws.specs.log_laws.layout_model.Places.{Geometry, is_data_block, log_line, reserve}
-use Rattle.relink_laws.specs.log_laws.image_model.Checked.{IsCheckedAs}
-use Rattle.relink_laws.specs.log_laws.image_model.Content.{content, disk_of, size_of}
-use Rattle.relink_laws.specs.log_laws.image_model.Live.{entry_in, is_file, is_live, live_entries, valid_entries}
-use Rattle.relink_laws.specs.log_laws.image_model.Reading.{Reads}
-use Rattle.relink_laws.specs.log_laws.image_model.Rules.{geometry_of, IsChecked}
-use Rattle.relink_laws.specs.log_laws.image_model.Volume.{chain, extents, free_inode, inode, Volume}
+use Rattle.fsync_relink.specs.log_laws.layout_model.Journal.{journaled}
+use Rattle.fsync_relink.specs.log_laws.layout_model.Places.{Geometry, is_data_block, log_line, reserve}
+use Rattle.fsync_relink.specs.log_laws.image_model.Checked.{IsCheckedAs}
+use Rattle.fsync_relink.specs.log_laws.image_model.Content.{content, disk_of, size_of}
+use Rattle.fsync_relink.specs.log_laws.image_model.Live.{entry_in, is_file, is_live, live_entries, valid_entries}
+use Rattle.fsync_relink.specs.log_laws.image_model.Reading.{Reads}
+use Rattle.fsync_relink.specs.log_laws.image_model.Rules.{geometry_of, IsChecked}
+use Rattle.fsync_relink.specs.log_laws.image_model.Volume.{chain, extents, free_inode, inode, Volume}
 use Rattle.std.specs.List.{range_with_len}
-use Rattle.relink_laws.specs.log_laws.extent_model.Extents.{disk_at}
-use Rattle.relink_laws.specs.log_laws.extent_model.Moves.{IsMapped}
-use Rattle.relink_laws.specs.log_laws.list_laws.Filters.{filter-In, filter_map-In}
-use Rattle.relink_laws.specs.log_laws.list_laws.Members.{In}
-use Rattle.relink_laws.specs.log_laws.image_laws.CheckedLaws.{checked-parts}
+use Rattle.fsync_relink.specs.log_laws.extent_model.Extents.{disk_at}
+use Rattle.fsync_relink.specs.log_laws.extent_model.Moves.{IsMapped}
+use Rattle.fsync_relink.specs.log_laws.list_laws.Filters.{filter-In, filter_map-In}
+use Rattle.fsync_relink.specs.log_laws.list_laws.Members.{In}
+use Rattle.fsync_relink.specs.log_laws.image_laws.CheckedLaws.{checked-parts}
 use Rattle.k_split.specs.k_map_plans.Plans.{MayMove}
 use Rattle.world_image_laws.specs.Images.{IsHeaded}
 use Rattle.log_replay.specs.Sheds.{IsAtRest}
 use Rattle.k_split.specs.k_plans.Whole.{IsWhole}
-use Rattle.relink_laws.specs.log_laws.k_split_model.Stands.{IsOldOrNew}
-use Rattle.relink_laws.specs.log_laws.k_split_model.View.{View}
+use Rattle.fsync_relink.specs.log_laws.k_split_model.Stands.{IsOldOrNew}
+use Rattle.fsync_relink.specs.log_laws.k_split_model.View.{View}
 use Rattle.k_split.specs.Answers.{IsPaid}
 use Rattle.k_split.specs.MapChanges.{ChangesMaps, free_blocks_in, is_free_in, IsMovedSingle, IsMovedWith, IsRelinkAnswer}
 use Rattle.k_split.specs.declared.faults.KFault.{KFault}
-use Rattle.relink_laws.specs.Moves.{move_for}
-use Rattle.relink_laws.specs.log_laws.volume_laws.Footprint.{SameLog}
-use Rattle.relink_laws.specs.log_laws.volume_laws.FootprintLaws.{live_entries-same}
-use Rattle.relink_laws.specs.log_laws.world_model.LogRules.{live_parts}
-use Rattle.relink_laws.specs.log_laws.world_model.Landed.{kind_file}
-use Rattle.relink_laws.proofs.log_laws_proofs.CheckedLaws.{sound-checked}
-use Rattle.relink_laws.proofs.RelinkLaws.{count-same}
-use Rattle.relink_laws.proofs.WorldLaws.{gives-relinks, keeps-content, relink-takes_one}
-use Rattle.relink_laws.specs.Laws.{IsRelinkOf}
-use Rattle.relink_laws.specs.log_laws.Logs.{AreSound, CarriesOut, HasSameFiles, IsNext}
-use Rattle.relink_laws.specs.Images.{IsCarried}
-use Rattle.relink_laws.specs.log_laws.world_write_laws.Relinks.{SameLine}
+use Rattle.fsync_relink.specs.Moves.{move_for}
+use Rattle.fsync_relink.specs.log_laws.volume_laws.Footprint.{SameLog}
+use Rattle.fsync_relink.specs.log_laws.volume_laws.FootprintLaws.{live_entries-same}
+use Rattle.fsync_relink.specs.log_laws.world_model.LogRules.{live_parts}
+use Rattle.fsync_relink.specs.log_laws.world_model.Landed.{kind_file}
+use Rattle.fsync_relink.proofs.log_laws_proofs.CheckedLaws.{sound-checked}
+use Rattle.fsync_relink.proofs.RelinkLaws.{count-same}
+use Rattle.fsync_relink.proofs.WorldLaws.{gives-relinks, keeps-content, relink-takes_one}
+use Rattle.fsync_relink.specs.Laws.{IsRelinkOf}
+use Rattle.fsync_relink.specs.log_laws.Logs.{AreSound, CarriesOut, HasSameFiles, IsNext}
+use Rattle.fsync_relink.specs.Images.{IsCarried}
+use Rattle.fsync_relink.specs.log_laws.world_write_laws.Relinks.{SameLine}
 use Rattle.log_replay.proofs.Passed.{free-unnamed}
 use Rattle.log_replay.specs.Replays.{IsReplayAnswer, IsReplayed, IsReplayPaid, live_in, MayReplay, seen, ShowsTheSame, stopped_by}
-use Rattle.relink_laws.proofs.log_laws_proofs.Heads.{headed-next}
-use Rattle.relink_laws.proofs.log_laws_proofs.Kept.{log-carried, log-same}
-use Rattle.relink_laws.specs.log_laws.Orders.{ComeFirst}
-use Rattle.relink_laws.proofs.log_laws_proofs.InOrder.{first-in_order, no-member, permuted}
+use Rattle.fsync_relink.proofs.log_laws_proofs.Heads.{headed-next}
+use Rattle.fsync_relink.proofs.log_laws_proofs.Kept.{log-carried, log-same}
+use Rattle.fsync_relink.specs.log_laws.Orders.{ComeFirst}
+use Rattle.fsync_relink.proofs.log_laws_proofs.InOrder.{first-in_order, no-member, permuted}
 
 -- From k0 the entries in front were carried out; these are left.
 pub record IsOnTheWay (k0 : View) (left : List Draft) (k : View) : Type 0 where

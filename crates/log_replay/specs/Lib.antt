@@ -8,8 +8,8 @@ pub mod Resets
 pub mod Mounts
 pub use Rattle.world_image_laws.specs.Changed
 pub use Rattle.world_image_laws.specs.Images
-pub use Rattle.relink_laws.specs.log_laws.world_model.Landed
-pub use Rattle.relink_laws.specs.log_laws.Orders
+pub use Rattle.fsync_relink.specs.log_laws.world_model.Landed
+pub use Rattle.fsync_relink.specs.log_laws.Orders
 pub use Rattle.k_split.specs.k_map_plans.Plans
 pub use Rattle.k_split.specs.k_plans.View
 pub use Rattle.k_split.specs.k_plans.Whole

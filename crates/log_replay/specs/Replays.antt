@@ -1,25 +1,25 @@
 -- What it asks for that the live entries of a log are carried out, and what that leaves.
 use Rattle.std.specs.Prelude.{◌≡◌, ◌*◌, ℕ, true, false, List, [], Result, Ok, Err, alloc_error}
 use Rattle.std.specs.declared.alloc.AllocError.{AllocError}
-use Rattle.relink_laws.specs.log_laws.pm_model.Images.{words_of}
-use Rattle.relink_laws.specs.log_laws.pm_model.Powers.{is_on, Supply}
-use Rattle.relink_laws.specs.log_laws.pm_model.Words.{Words}
+use Rattle.fsync_relink.specs.log_laws.pm_model.Images.{words_of}
+use Rattle.fsync_relink.specs.log_laws.pm_model.Powers.{is_on, Supply}
+use Rattle.fsync_relink.specs.log_laws.pm_model.Words.{Words}
 use Rattle.layout_model.specs.declared.lines.Draft.{Draft}
-use Rattle.relink_laws.specs.log_laws.layout_model.Journal.{journaled}
-use Rattle.relink_laws.specs.log_laws.layout_model.Places.{Geometry}
-use Rattle.relink_laws.specs.log_laws.image_model.Checked.{IsCheckedAs}
-use Rattle.relink_laws.specs.log_laws.image_model.Content.{content}
-use Rattle.relink_laws.specs.log_laws.image_model.Live.{live_entries}
-use Rattle.relink_laws.specs.log_laws.image_model.Rules.{geometry_of, IsChecked}
-use Rattle.relink_laws.specs.log_laws.image_model.Volume.{inode}
+use Rattle.fsync_relink.specs.log_laws.layout_model.Journal.{journaled}
+use Rattle.fsync_relink.specs.log_laws.layout_model.Places.{Geometry}
+use Rattle.fsync_relink.specs.log_laws.image_model.Checked.{IsCheckedAs}
+use Rattle.fsync_relink.specs.log_laws.image_model.Content.{content}
+use Rattle.fsync_relink.specs.log_laws.image_model.Live.{live_entries}
+use Rattle.fsync_relink.specs.log_laws.image_model.Rules.{geometry_of, IsChecked}
+use Rattle.fsync_relink.specs.log_laws.image_model.Volume.{inode}
 use Rattle.k_split.specs.k_journal.declared.outcomes.Commit.{Commit}
 use Rattle.log_replay.specs.Sheds.{IsAtRest}
-use Rattle.relink_laws.specs.log_laws.k_split_model.View.{View}
+use Rattle.fsync_relink.specs.log_laws.k_split_model.View.{View}
 use Rattle.k_split.specs.declared.faults.KFault.{KFault}
-use Rattle.relink_laws.specs.log_laws.volume_laws.Footprint.{SameLog}
-use Rattle.relink_laws.specs.log_laws.Logs.{HasSameFiles}
-use Rattle.relink_laws.specs.log_laws.world_write_laws.Relinks.{SameLine}
-use Rattle.relink_laws.specs.log_laws.Orders.{AreInOrder}
+use Rattle.fsync_relink.specs.log_laws.volume_laws.Footprint.{SameLog}
+use Rattle.fsync_relink.specs.log_laws.Logs.{HasSameFiles}
+use Rattle.fsync_relink.specs.log_laws.world_write_laws.Relinks.{SameLine}
+use Rattle.fsync_relink.specs.log_laws.Orders.{AreInOrder}
 
 -- what K-Split's device shows through its journal, and the entries of its log that are live
 abbrev pub seen : View → Words

@@ -12,7 +12,7 @@
 //! `HasOldLines`: each line that is an entry is one of an earlier lap, since the first round hands its
 //! lines out as they are.
 //!
-//! Stands on `layout_model`, `pm_lines`, `relink_laws`, `world_image_laws`, `k_split`,
+//! Stands on `layout_model`, `pm_lines`, `fsync_relink`, `world_image_laws`, `k_split`,
 //! `block_counts`, `k_check` and `staging_files`.
 #![tactic(auto)]
 

@@ -8,7 +8,7 @@ use Rattle.std.proofs.lemmas.List.{length-append, length-replicate}
 use Rattle.std.proofs.lemmas.List.Elements.{All-cons, All-from_get_or, All-head, All-nil, All-replicate, All-tail}
 use Rattle.std.proofs.lemmas.List.FromFn.{get_or-map-range_with_len, length-map-range_with_len}
 use Rattle.std.proofs.lemmas.List.Sums.{sum_by-cons}
-use Rattle.layout_model.specs.Spelling.{is_spelled}
+use Rattle.script_text.specs.layout_model.Spelling.{is_spelled}
 use Rattle.posix_types.specs.declared.call.Call.{Call}
 use Rattle.report_text.specs.Scripts.{call_line, calls_text, scripts_text, thread_text}
 use Rattle.report_text.specs.Texts.{are_equal, call_text, data_text, flags_text, hex_byte, is_short}

@@ -4,16 +4,16 @@ use Rattle.std.proofs.Common.{arith, ap, ◌∙◌, inl, inr, get_or}
 use Rattle.std.proofs.lemmas.Bool.{cases_Bool, cases_lt}
 use Rattle.std.proofs.lemmas.Bool.Decides.{nat_tests}
 use Rattle.std.proofs.lemmas.List.{get_or_default}
-use Rattle.k_split_model.specs.block_counts.Counts.{chains_for}
-use Rattle.k_split_model.specs.layout_model.Places.{is_data_block, reserve}
-use Rattle.k_split_model.specs.extent_model.declared.extent_words.Extent.{Extent}
-use Rattle.k_split_model.specs.extent_model.Extents.{disk_at, holds_disk, IsCanonical, IsExtent}
-use Rattle.k_split_model.specs.extent_model.Maps.{IsPart}
+use Rattle.name_laws.specs.k_split_model.block_counts.Counts.{chains_for}
+use Rattle.name_laws.specs.k_split_model.layout_model.Places.{is_data_block, reserve}
+use Rattle.name_laws.specs.k_split_model.extent_model.declared.extent_words.Extent.{Extent}
+use Rattle.name_laws.specs.k_split_model.extent_model.Extents.{disk_at, holds_disk, IsCanonical, IsExtent}
+use Rattle.name_laws.specs.k_split_model.extent_model.Maps.{IsPart}
 use Rattle.name_laws.specs.volume_laws.extent_model.Counts.{count_below, one_if}
-use Rattle.k_split_model.specs.image_model.Kept.{AreKept}
-use Rattle.k_split_model.specs.image_model.Placed.{extent_at, no_extent}
-use Rattle.k_split_model.specs.image_model.Rules.{file_blocks_of}
-use Rattle.k_split_model.specs.image_model.Volume.{Volume, extents, inode}
+use Rattle.name_laws.specs.k_split_model.image_model.Kept.{AreKept}
+use Rattle.name_laws.specs.k_split_model.image_model.Placed.{extent_at, no_extent}
+use Rattle.name_laws.specs.k_split_model.image_model.Rules.{file_blocks_of}
+use Rattle.name_laws.specs.k_split_model.image_model.Volume.{Volume, extents, inode}
 use Rattle.name_laws.specs.KeptLaws.{HasAllLines}
 use Rattle.name_laws.specs.volume_laws.BoundLaws.{chains-bound}
 use Rattle.name_laws.specs.volume_laws.OwnerLaws.{one_use}

@@ -6,16 +6,16 @@ use Rattle.std.proofs.lemmas.Bool.{cases_Bool, cases_eq, cases_lt}
 use Rattle.std.proofs.lemmas.Bool.Decides.{nat_tests}
 use Rattle.std.proofs.lemmas.List.{get_or_append_left, get_or-append_right}
 use Rattle.std.proofs.lemmas.List.Sums.{sum_by-cons}
-use Rattle.k_split_model.specs.extent_model.declared.extent_words.Extent.{Extent}
-use Rattle.k_split_model.specs.extent_model.Extents.{disk_at, disk_in, holds, holds_disk, is_within, IsCanonical, IsExtent}
-use Rattle.k_split_model.specs.extent_model.Maps.{IsPart, Replaces}
-use Rattle.k_split_model.specs.extent_model.Moves.{Moves}
+use Rattle.name_laws.specs.k_split_model.extent_model.declared.extent_words.Extent.{Extent}
+use Rattle.name_laws.specs.k_split_model.extent_model.Extents.{disk_at, disk_in, holds, holds_disk, is_within, IsCanonical, IsExtent}
+use Rattle.name_laws.specs.k_split_model.extent_model.Maps.{IsPart, Replaces}
+use Rattle.name_laws.specs.k_split_model.extent_model.Moves.{Moves}
 use Rattle.name_laws.specs.volume_laws.extent_model.Counts.{count_below, count_below-agree, count_below-balance, count_below-more, count_below-range, count_below-zero, one_if}
 use Rattle.name_laws.specs.volume_laws.extent_model.Facts.{IsCanonical-tail}
 use Rattle.name_laws.specs.volume_laws.extent_model.Spelling.{none_behind}
-use Rattle.k_split_model.specs.image_model.Placed.{block_at}
+use Rattle.name_laws.specs.k_split_model.image_model.Placed.{block_at}
 use Rattle.name_laws.specs.volume_laws.Uses.{in_chain, in_map}
-use Rattle.k_split_model.specs.MapChangesChanges.{HasInOrder}
+use Rattle.name_laws.specs.k_split_model.MapChangesChanges.{HasInOrder}
 
 -- whether a file block has the disk block
 abbrev pub is_disk : Option ℕ → ℕ → Bool

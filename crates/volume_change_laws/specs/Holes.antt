@@ -8,12 +8,12 @@ use Rattle.std.proofs.lemmas.Grind.{get_or_default_zero}
 use Rattle.std.proofs.lemmas.List.{append-nil, get_or_append_left, get_or-append_right, get_or-take, length-take-le, take_all, take_more}
 use Rattle.std.proofs.lemmas.List.Elements.{filter-append}
 use Rattle.std.proofs.lemmas.List.Folds.{list_any-append, list_any_none}
-use Rattle.k_split_model.specs.image_model.Placed.{block_at}
+use Rattle.name_laws.specs.k_split_model.image_model.Placed.{block_at}
 use Rattle.name_laws.specs.volume_laws.extent_model.Counts.{one_if}
-use Rattle.k_split_model.specs.extent_model.declared.extent_words.Extent.{Extent}
-use Rattle.k_split_model.specs.extent_model.Extents.{disk_at, disk_in, holds, IsCanonical}
-use Rattle.k_split_model.specs.extent_model.Maps.{Replaces}
-use Rattle.k_split_model.specs.MapChangesChanges.{Fills, holes}
+use Rattle.name_laws.specs.k_split_model.extent_model.declared.extent_words.Extent.{Extent}
+use Rattle.name_laws.specs.k_split_model.extent_model.Extents.{disk_at, disk_in, holds, IsCanonical}
+use Rattle.name_laws.specs.k_split_model.extent_model.Maps.{Replaces}
+use Rattle.name_laws.specs.k_split_model.MapChangesChanges.{Fills, holes}
 use Rattle.volume_change_laws.specs.Hits.{in_chain-push, in_map-one}
 use Rattle.name_laws.specs.volume_laws.Uses.{in_chain, in_map}
 

@@ -4,16 +4,15 @@ use Rattle.std.specs.List.{list_any, range_with_len}
 use Rattle.std.proofs.Common.{arith, ap, sym, ◌∙◌, inl, inr, get_or, length-append, subst}
 use Rattle.std.proofs.lemmas.Bool.{cases_Bool, cases_eq, cases_lt, eq-eqb, ne_eqb}
 use Rattle.std.proofs.lemmas.Bool.Decides.{Decides-eqb, nat_tests}
-use Rattle.k_split_model.specs.block_counts.Counts.{chains_for}
-use Rattle.k_split_model.specs.image_model.Placed.{no_extent}
-use Rattle.k_split_model.specs.extent_model.declared.extent_words.Extent.{Extent}
-use Rattle.k_split_model.specs.image_model.Placed.{block_at}
-use Rattle.k_split_model.specs.extent_model.Extents.{block_count, ComesAfter, disk_at, disk_in, holds, is_within, IsCanonical, IsExtent}
-use Rattle.k_split_model.specs.extent_model.Maps.{IsPart}
-use Rattle.k_split_model.specs.extent_model.Moves.{Moves}
+use Rattle.name_laws.specs.k_split_model.block_counts.Counts.{chains_for}
+use Rattle.name_laws.specs.k_split_model.image_model.Placed.{no_extent, block_at}
+use Rattle.name_laws.specs.k_split_model.extent_model.declared.extent_words.Extent.{Extent}
+use Rattle.name_laws.specs.k_split_model.extent_model.Extents.{block_count, ComesAfter, disk_at, disk_in, holds, is_within, IsCanonical, IsExtent}
+use Rattle.name_laws.specs.k_split_model.extent_model.Maps.{IsPart}
+use Rattle.name_laws.specs.k_split_model.extent_model.Moves.{Moves}
 use Rattle.name_laws.specs.volume_laws.extent_model.Counts.{block_count-mapped, count_below, count_below-balance, count_below-more, count_below-none, count_below-range, count_below-zero, is_mapped, one_if}
 use Rattle.name_laws.specs.volume_laws.extent_model.Facts.{disk_at_found, IsCanonical-tail}
-use Rattle.k_split_model.specs.MapChangesChanges.{Fills, holes}
+use Rattle.name_laws.specs.k_split_model.MapChangesChanges.{Fills, holes}
 use Rattle.volume_change_laws.specs.Holes.{holes-more, holes-same}
 use Rattle.volume_change_laws.specs.Shorts.{AreBelow, length-below, part-below}
 

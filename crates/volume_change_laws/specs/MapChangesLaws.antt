@@ -1,18 +1,18 @@
 -- The chief laws of the changes of maps, each as one statement.
 use Rattle.std.specs.Prelude.{◌≡◌, ◌==◌, ℕ, ◌+◌, ◌<◌, ◌≤◌, ◌&&◌, not, Bool, true, List, length, None}
 use Rattle.std.specs.List.{list_any}
-use Rattle.k_split_model.specs.block_counts.Counts.{chains_for}
-use Rattle.k_split_model.specs.layout_model.Places.{is_data_block, reserve}
-use Rattle.k_split_model.specs.extent_model.declared.extent_words.Extent.{Extent}
-use Rattle.k_split_model.specs.extent_model.Extents.{disk_at, IsCanonical}
-use Rattle.k_split_model.specs.extent_model.Maps.{IsPart, Replaces}
-use Rattle.k_split_model.specs.extent_model.Moves.{Moves}
+use Rattle.name_laws.specs.k_split_model.block_counts.Counts.{chains_for}
+use Rattle.name_laws.specs.k_split_model.layout_model.Places.{is_data_block, reserve}
+use Rattle.name_laws.specs.k_split_model.extent_model.declared.extent_words.Extent.{Extent}
+use Rattle.name_laws.specs.k_split_model.extent_model.Extents.{disk_at, IsCanonical}
+use Rattle.name_laws.specs.k_split_model.extent_model.Maps.{IsPart, Replaces}
+use Rattle.name_laws.specs.k_split_model.extent_model.Moves.{Moves}
 use Rattle.name_laws.specs.volume_laws.extent_model.Counts.{one_if}
-use Rattle.k_split_model.specs.layout_model.declared.lines.Inode.{Inode}
-use Rattle.k_split_model.specs.image_model.Kept.{AreKept}
-use Rattle.k_split_model.specs.image_model.Volume.{Volume, extents}
-use Rattle.k_split_model.specs.MapChangesChanges.{HasInOrder}
-use Rattle.k_split_model.specs.Taken.{switched}
+use Rattle.name_laws.specs.k_split_model.layout_model.declared.lines.Inode.{Inode}
+use Rattle.name_laws.specs.k_split_model.image_model.Kept.{AreKept}
+use Rattle.name_laws.specs.k_split_model.image_model.Volume.{Volume, extents}
+use Rattle.name_laws.specs.k_split_model.MapChangesChanges.{HasInOrder}
+use Rattle.name_laws.specs.k_split_model.Taken.{switched}
 use Rattle.name_laws.specs.KeptLaws.{HasAllLines}
 use Rattle.volume_change_laws.specs.Hits.{AreAt}
 use Rattle.volume_change_laws.specs.Switches.{MaySwitch, StandsWith}

@@ -3,12 +3,12 @@ use Rattle.std.specs.Prelude.{◌≡◌, ℕ, suc, ◌+◌, ◌-◌, ◌<◌, �
 use Rattle.std.proofs.Common.{arith, sym, ◌∙◌, inl, inr, get_or}
 use Rattle.std.proofs.lemmas.Bool.{cases_Bool, cases_lt}
 use Rattle.std.proofs.lemmas.Bool.Decides.{nat_tests}
-use Rattle.k_split_model.specs.image_model.Placed.{no_extent}
-use Rattle.k_split_model.specs.extent_model.declared.extent_words.Extent.{Extent}
-use Rattle.k_split_model.specs.extent_model.Extents.{ComesAfter, disk_at, disk_in, holds, IsCanonical, IsExtent}
-use Rattle.k_split_model.specs.extent_model.Maps.{IsPart}
+use Rattle.name_laws.specs.k_split_model.image_model.Placed.{no_extent}
+use Rattle.name_laws.specs.k_split_model.extent_model.declared.extent_words.Extent.{Extent}
+use Rattle.name_laws.specs.k_split_model.extent_model.Extents.{ComesAfter, disk_at, disk_in, holds, IsCanonical, IsExtent}
+use Rattle.name_laws.specs.k_split_model.extent_model.Maps.{IsPart}
 use Rattle.name_laws.specs.volume_laws.extent_model.Facts.{disk_at_found, disk_at_is, IsCanonical-tail}
-use Rattle.k_split_model.specs.MapChangesChanges.{HasInOrder}
+use Rattle.name_laws.specs.k_split_model.MapChangesChanges.{HasInOrder}
 
 -- the extents end by the file block
 abbrev pub AreBelow : ℕ → List Extent → Type 0

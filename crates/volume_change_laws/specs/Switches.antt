@@ -7,18 +7,18 @@ use Rattle.std.proofs.lemmas.Bool.Decides.{nat_tests}
 use Rattle.std.proofs.lemmas.Grind.{get_or_default_zero}
 use Rattle.std.proofs.lemmas.List.{get_or_default}
 use Rattle.std.proofs.lemmas.List.Folds.{Any-from_list_any, list_any_at}
-use Rattle.k_split_model.specs.layout_model.Places.{is_data_block}
-use Rattle.k_split_model.specs.extent_model.declared.extent_words.Extent.{Extent}
-use Rattle.k_split_model.specs.extent_model.Extents.{holds_disk, IsCanonical, IsExtent}
-use Rattle.k_split_model.specs.layout_model.declared.lines.Inode.{Inode}
-use Rattle.k_split_model.specs.layout_model.Lines.{is_inode}
-use Rattle.k_split_model.specs.image_model.Kept.{AreKept}
-use Rattle.k_split_model.specs.image_model.Placed.{block_at, extent_at, no_extent}
-use Rattle.k_split_model.specs.image_model.Room.{has_none}
-use Rattle.k_split_model.specs.image_model.Rules.{IsInData, file_blocks_of}
-use Rattle.k_split_model.specs.image_model.Uses.{owners, uses_by}
-use Rattle.k_split_model.specs.image_model.Volume.{Volume, chain, extents, inode}
-use Rattle.k_split_model.specs.Taken.{switched, with_map}
+use Rattle.name_laws.specs.k_split_model.layout_model.Places.{is_data_block}
+use Rattle.name_laws.specs.k_split_model.extent_model.declared.extent_words.Extent.{Extent}
+use Rattle.name_laws.specs.k_split_model.extent_model.Extents.{holds_disk, IsCanonical, IsExtent}
+use Rattle.name_laws.specs.k_split_model.layout_model.declared.lines.Inode.{Inode}
+use Rattle.name_laws.specs.k_split_model.layout_model.Lines.{is_inode}
+use Rattle.name_laws.specs.k_split_model.image_model.Kept.{AreKept}
+use Rattle.name_laws.specs.k_split_model.image_model.Placed.{block_at, extent_at, no_extent}
+use Rattle.name_laws.specs.k_split_model.image_model.Room.{has_none}
+use Rattle.name_laws.specs.k_split_model.image_model.Rules.{IsInData, file_blocks_of}
+use Rattle.name_laws.specs.k_split_model.image_model.Uses.{owners, uses_by}
+use Rattle.name_laws.specs.k_split_model.image_model.Volume.{Volume, chain, extents, inode}
+use Rattle.name_laws.specs.k_split_model.Taken.{switched, with_map}
 use Rattle.name_laws.specs.KeptLaws.{HasAllLines}
 use Rattle.volume_change_laws.specs.MapLaws.{switch-keeps}
 use Rattle.name_laws.specs.volume_laws.OwnerLaws.{uses-le-owners}

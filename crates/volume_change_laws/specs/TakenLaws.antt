@@ -5,9 +5,9 @@ use Rattle.std.proofs.Common.{arith, ap, sym, ◌∙◌, inl, inr, subst, get_or
 use Rattle.std.proofs.lemmas.Bool.{both_ways, cases_eq, cases_lt, ne_eqb}
 use Rattle.std.proofs.lemmas.List.Elements.{All-append}
 use Rattle.std.proofs.lemmas.List.Kept.{AllPairs-cons}
-use Rattle.k_split_model.specs.image_model.Placed.{AreDistinct}
+use Rattle.name_laws.specs.k_split_model.image_model.Placed.{AreDistinct}
 use Rattle.name_laws.specs.volume_laws.extent_model.Counts.{one_if}
-use Rattle.k_split_model.specs.Taken.{AreLowest}
+use Rattle.name_laws.specs.k_split_model.Taken.{AreLowest}
 use Rattle.volume_change_laws.specs.Hits.{in_chain-append}
 use Rattle.volume_change_laws.specs.Switches.{counted-among, not-among}
 use Rattle.name_laws.specs.volume_laws.UseLaws.{in_chain-some}

@@ -248,6 +248,9 @@ module _ (kept_law : StandsAsKept) (room_law : RoomIsKept) (rows : RowsAsCall) (
           enough = leave_enough;
           unlogged = λ found. ap (λ (o : Option Put). option_map_or (is_logged_put found.s.mode found.s) o false) (puts_it found) ∙ unlogged found;
           holes = no_holes;
+          middle = m;
+          filled = λ found. fills_there m found filled;
+          in_place = is.in_place;
           staging = is.same;
           same = is.kept;
           may = λ found.

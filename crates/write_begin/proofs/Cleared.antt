@@ -6,7 +6,7 @@ use Rattle.write_plan.specs.pm_model.Powers.{is_on, Supply}
 use Rattle.write_plan.specs.layout_model.block_counts.declared.TheConstants.{LONGEST_FILE}
 use Rattle.write_plan.specs.file_table.Files.{Files, spare_in}
 use Rattle.live_step_laws.specs.ReservesLaws.{StandsReserved}
-use Rattle.zero_fill.specs.Gaps.{block_start, Clears}
+use Rattle.in_place.specs.Gaps.{block_start, Clears}
 use Rattle.write_plan.specs.k_split_model.View.{View}
 use Rattle.posix_types.specs.declared.call.Mode.{Mode}
 use Rattle.posix_types.specs.declared.call.Who.{Who}

@@ -34,11 +34,11 @@ use Rattle.live_step_laws.specs.staging_files.Keeps.{Staged}
 use Rattle.live_step_laws.specs.live_model.Losses.{KeepsWhenLost}
 use Rattle.live_step_laws.specs.world_image_laws.LentLaws.{SameBlocks}
 use Rattle.live_step_laws.proofs.Backs.{kept_over}
-use Rattle.zero_fill.specs.k_split_laws.Left.{IsLeftOf}
-use Rattle.zero_fill.proofs.k_split_laws_proofs.Cuts.{left_through}
+use Rattle.in_place.specs.k_split_laws.Left.{IsLeftOf}
+use Rattle.in_place.proofs.k_split_laws_proofs.Cuts.{left_through}
 use Rattle.in_place.specs.Holes.{absent_count, FillsMap, HasRuns, holes_need, IsHolesAnswer, IsPresent}
-use Rattle.zero_fill.specs.k_split_laws.k_split.MapChanges.{free_blocks_in}
-use Rattle.in_place.specs.declared.holes.Holes.{Holes}
+use Rattle.in_place.specs.k_split_laws.k_split.MapChanges.{free_blocks_in}
+use Rattle.in_place.specs.declared.placing.holes.Holes.{Holes}
 use Rattle.write_begin.specs.Stages.{with_parts}
 use Rattle.write_begin.specs.Begins.{FillsFor, LacksFor}
 use Rattle.write_begin.specs.Goes.{filled_in, Goes, HasRoom, KeepsMaps}

@@ -16,4 +16,4 @@ mod Placing
 pub mod Begun
 pub mod JobNeeds
 pub use Rattle.write_plan.proofs as write_plan_proofs
-pub use Rattle.zero_fill.proofs as zero_fill_proofs
+pub use Rattle.in_place.proofs as in_place_proofs

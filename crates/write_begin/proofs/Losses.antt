@@ -7,8 +7,8 @@ use Rattle.write_plan.specs.file_table.Files.{Files}
 use Rattle.write_plan.specs.FirstWritesLaws.{FirstWriteFits}
 use Rattle.live_step_laws.specs.ReservesLaws.{KeepsReserved}
 use Rattle.write_plan.specs.k_split_model.View.{View}
-use Rattle.zero_fill.specs.k_split_laws.Left.{IsLeftOf}
-use Rattle.zero_fill.proofs.k_split_laws_proofs.Cuts.{left_at, left_map_cut}
+use Rattle.in_place.specs.k_split_laws.Left.{IsLeftOf}
+use Rattle.in_place.proofs.k_split_laws_proofs.Cuts.{left_at, left_map_cut}
 use Rattle.posix_types.specs.declared.call.Who.{Who}
 use Rattle.live_step_laws.specs.staging_files.declared.runs.StageFault.{StageFault}
 use Rattle.live_step_laws.specs.staging_files.declared.runs.StageRun.{StageRun}
@@ -19,7 +19,7 @@ use Rattle.live_step_laws.specs.live_model.Losses.{KeepsWhenLost}
 use Rattle.live_step_laws.specs.live_model.Standing.{StandsAt}
 use Rattle.write_plan.specs.declared.asks.asking.Target.{Target}
 use Rattle.write_plan.specs.eof_laws.block_io.Overwrites.{blocks_reached}
-use Rattle.zero_fill.proofs.Lost.{left_off}
+use Rattle.in_place.proofs.Lost.{left_off}
 use Rattle.write_begin.specs.Stages.{with_parts}
 use Rattle.write_begin.specs.Goes.{Goes, GoesNoFurther, HasRoom, IsBareAtRest, LacksRun, LosesTarget, reached_run}
 

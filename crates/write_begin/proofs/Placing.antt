@@ -307,6 +307,7 @@ module _ (mode : Mode) (k l : View) (staging : Staged) (files : Files) (who : Wh
     none = none;
     same = refl;
     kept = refl;
+    in_place = places.same;
     stands = λ goes. placed_then mode k staging files who target x goes.0 fits within l sync places goes.1;
   }
 

@@ -28,9 +28,9 @@ use Rattle.write_plan.specs.file_overlay.Runs.{staged_at}
 use Rattle.live_step_laws.specs.ReservesLaws.{StandsReserved, StandsWithRun}
 use Rattle.live_step_laws.proofs.Restaged as restaging
 use Rattle.live_step_laws.proofs.Backs.{kept_over}
-use Rattle.zero_fill.specs.Gaps.{block_start, Clears, HasFile, LosesGap, Stays}
-use Rattle.zero_fill.specs.Zeros.{ReadZero}
-use Rattle.zero_fill.proofs.k_split_laws_proofs.Cuts.{left_through}
+use Rattle.in_place.specs.Gaps.{block_start, Clears, HasFile, LosesGap, Stays}
+use Rattle.in_place.specs.Zeros.{ReadZero}
+use Rattle.in_place.proofs.k_split_laws_proofs.Cuts.{left_through}
 use Rattle.write_plan.specs.k_split_model.View.{View}
 use Rattle.write_plan.specs.list_laws.Members.{In, slice_get-push}
 use Rattle.posix_types.specs.declared.call.Mode.{Mode}
@@ -43,7 +43,7 @@ use Rattle.live_step_laws.specs.staging_files.GivesUp.{IsGivenBack}
 use Rattle.live_step_laws.specs.staging_files.Keeps.{given_to, has_block, IsRunSingle, IsStaged, IsThere, Staged}
 use Rattle.live_step_laws.specs.staging_files.Reserves.{has_empty, IsLacking, IsReserveAnswer, LacksFirstWay, LacksSecondWay, share}
 use Rattle.live_step_laws.specs.world_model.JobLaws.{needs}
-use Rattle.live_step_laws.specs.relink_laws.world_write_laws.Restages.{Restages}
+use Rattle.live_step_laws.specs.fsync_relink.world_write_laws.Restages.{Restages}
 use Rattle.live_step_laws.specs.world_model.Jobs.{live_claims}
 use Rattle.live_step_laws.specs.world_model.Stands.{number}
 use Rattle.live_step_laws.specs.live_model.Standing.{Kept, reserved_run, StandsAt}

@@ -6,7 +6,7 @@ use Rattle.write_plan.specs.pm_model.Powers.{is_on, Supply}
 use Rattle.write_plan.specs.layout_model.Places.{Geometry}
 use Rattle.write_plan.specs.file_table.Files.{Files}
 use Rattle.write_plan.specs.k_split_model.View.{View}
-use Rattle.zero_fill.specs.k_split_laws.Left.{IsLeftOf}
+use Rattle.in_place.specs.k_split_laws.Left.{IsLeftOf}
 use Rattle.posix_types.specs.declared.call.Call.{Call}
 use Rattle.posix_types.specs.declared.call.Mode.{Mode}
 use Rattle.posix_types.specs.declared.call.Who.{Who}
@@ -67,7 +67,7 @@ IsAccepted mode who h at x k t staging files taken =
 
 -- ---- room
 
--- The state has room for the call, but the jobs that are out leave less than it needs.
+-- The jobs that are out leave less room than the call needs.
 pub record LacksBeside (s : State) (who : Who) (call : Call) (jobs : List Job) (need left : ℕ) : Type 0 where
   pub need_is : need ≡ need_of s who call
   pub left_is : left ≡ room s - needs s jobs
@@ -130,12 +130,16 @@ pub record BeginsWrite (mode : Mode) (who : Who) (h : Handle) (at : Option ℕ) 
 -- ---- it is written in place
 
 -- IT IS WRITTEN IN PLACE: no row refuses it, the jobs that are out left what it needs, it does not reach past the end, and there was room
--- for its holes; nothing was staged; and with the tables moved, which is the caller's to do, the World stands together in the state after it.
+-- for its holes, which are filled; then cells alone are others, so its bytes lie in the blocks that its file has; nothing was staged; and
+-- with the tables moved, which is the caller's to do, the World stands together in the state after it.
 pub record WritesNow (mode : Mode) (who : Who) (h : Handle) (at : Option ℕ) (x : List ℕ) (k l : View) (t : Tables) (old new : Staged) (files then : Files) (taken : ℕ) : Type 0 where
   pub accepted : IsAccepted mode who h at x k t old files taken
   pub enough : (found : Found mode k t old files who (call_of h at x) taken) (need left : ℕ) → ¬ LacksBeside found.s who (call_of h at x) found.stands.jobs need left
   pub unlogged : (found : Found mode k t old files who (call_of h at x) taken) → is_logged found.s (who, call_of h at x) ≡ false
   pub holes : (found : Found mode k t old files who (call_of h at x) taken) (need left : ℕ) → ¬ LacksHoles found.s who (call_of h at x) found.stands.jobs k k old files (file_number t who h) need left
+  pub middle : View
+  pub filled : (found : Found mode k t old files who (call_of h at x) taken) → FillsFor k middle old files (file_number t who h) (placed_at found.s (put_by found.s who (call_of h at x)))
+  pub in_place : l ≡ record middle { cells = l.cells }
   pub staging : new ≡ old
   pub same : then ≡ files
   pub may : (found : Found mode k t old files who (call_of h at x) taken) → CanMoveBy t then who (call_of h at x)

@@ -11,7 +11,7 @@ use Rattle.write_plan.specs.eof_laws.block_io.Overwrites.{blocks_reached}
 use Rattle.write_plan.specs.file_table.Files.{Files, runs_in, size_in}
 use Rattle.write_plan.specs.k_split_model.View.{View}
 use Rattle.write_plan.specs.list_laws.Members.{In}
-use Rattle.zero_fill.specs.k_split_laws.Left.{IsLeftOf}
+use Rattle.in_place.specs.k_split_laws.Left.{IsLeftOf}
 use Rattle.posix_types.specs.declared.call.Call.{Call}
 use Rattle.posix_types.specs.declared.call.Mode.{Mode}
 use Rattle.posix_types.specs.declared.call.Who.{Who}
@@ -146,11 +146,12 @@ pub record LosesTarget (mode : Mode) (k l : View) (old : Staged) (files : Files)
   pub kept : (goes : Goes mode k old files who target x) (start : State) (history : List Item) → goes.s ≡ run start history
       → KeepsWhenLost k.volume l.cells goes.kept goes.stands.jobs start history ((who, goes.call) ∷ [])
 
--- it stages nothing and is written in place: with the tables moved the World stands together in the state after it
+-- it stages nothing and is written in place, where cells alone are others: with the tables moved the World stands together in the state after it
 pub record PlacesTarget (mode : Mode) (k l : View) (old new : Staged) (files then : Files) (who : Who) (target : Target) (x : List ℕ) (run : Option (ℕ × ℕ)) : Type 0 where
   pub none : run ≡ None
   pub same : new ≡ old
   pub kept : then ≡ files
+  pub in_place : l ≡ record k { cells = l.cells }
   pub stands : (goes : GoesWhole mode k old files who target x)
       → StandsAt goes.0.g l (moved_by goes.0.t then who goes.0.call) (with_parts goes.0.kept new then) true (goes.0.n + 1) (after_call goes.0.s (who, goes.0.call))
 

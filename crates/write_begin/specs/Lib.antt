@@ -19,4 +19,4 @@ pub use Rattle.posix_types.specs as posix_types
 pub use Rattle.posix_tables.specs as posix_tables
 pub use Rattle.write_plan.specs.write_jobs
 pub use Rattle.write_plan.specs as write_plan
-pub use Rattle.zero_fill.specs as zero_fill
+pub use Rattle.in_place.specs as in_place

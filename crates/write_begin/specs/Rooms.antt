@@ -12,7 +12,7 @@ use Rattle.posix_types.specs.declared.call.Who.{Who}
 use Rattle.data_route.specs.declared.writes.WritePlan.{WritePlan}
 use Rattle.live_step_laws.specs.staging_files.Keeps.{Staged}
 use Rattle.in_place.specs.Holes.{FillsSome, IsPresent, LosesHoles}
-use Rattle.in_place.specs.declared.holes.Holes.{Holes}
+use Rattle.in_place.specs.declared.placing.holes.Holes.{Holes}
 use Rattle.write_plan.specs.declared.asks.asking.Target.{Target}
 use Rattle.write_begin.specs.declared.begins.beginning.WriteBegun.{WriteBegun}
 use Rattle.write_begin.specs.Begins.{FillsFor, LacksFor}

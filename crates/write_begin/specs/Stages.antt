@@ -6,7 +6,7 @@ use Rattle.write_jobs.specs.layout_model.Places.{Geometry, reserve}
 use Rattle.write_jobs.specs.image_model.Room.{unused_blocks}
 use Rattle.write_jobs.specs.image_model.Volume.{inode}
 use Rattle.live_step_laws.specs.file_table.Files.{Files, size_in, spare_in}
-use Rattle.zero_fill.specs.Zeros.{ReadZero}
+use Rattle.in_place.specs.Zeros.{ReadZero}
 use Rattle.write_jobs.specs.k_split_model.View.{View}
 use Rattle.write_plan.specs.list_laws.Members.{In}
 use Rattle.posix_types.specs.declared.call.Call.{Call}

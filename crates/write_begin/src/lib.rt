@@ -8,7 +8,7 @@
 //! - `begins`: The beginning of a write.
 //!
 //! Stands on `data_route`, `pm_lines`, `posix_types`, `posix_laws`, `live_step_laws`, `write_jobs`, `write_plan`,
-//! `zero_fill`, `block_counts`, `posix_tables` and `in_place`.
+//! `in_place`, `block_counts`, `posix_tables` and `in_place`.
 #![tactic(auto)]
 
 mod begins;

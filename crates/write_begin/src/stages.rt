@@ -8,9 +8,9 @@
 
 mod staging;
 
+pub use in_place::clear_gap;
 pub use staging::{StagedWrite, stage_write};
 pub use write_plan::{
     Asked, OpenFiles, Opened, Target, ask, kept_numbers_are_those_of_the_state,
     numbers_are_those_of_the_state,
 };
-pub use zero_fill::clear_gap;

@@ -9,9 +9,9 @@ use Rattle.oplog_entry.specs.layout_model.declared.lines.Draft.{Draft}
 use Rattle.oplog_entry.specs.layout_model.declared.lines.Kind.TheVariants.{Staging}
 use Rattle.oplog_entry.specs.layout_model.Journal.{journaled}
 use Rattle.oplog_entry.specs.image_model.Volume.{inode, Volume}
-use Rattle.k_split_laws.specs.list_laws.Members.{In}
-use Rattle.k_split_laws.specs.posix_spec.State.{State}
-use Rattle.k_split_laws.specs.volume_laws.OwnerLaws.{IsOnePlace, one_owner}
+use Rattle.in_place.specs.k_split_laws.list_laws.Members.{In}
+use Rattle.in_place.specs.k_split_laws.posix_spec.State.{State}
+use Rattle.in_place.specs.k_split_laws.volume_laws.OwnerLaws.{IsOnePlace, one_owner}
 use Rattle.write_plan.specs.eof_laws.log_checkpoint.world_model.Lent.{once_named}
 use Rattle.write_plan.specs.eof_laws.log_checkpoint.world_model.Jobs.{AreApartJobs, IsStagedIn, Job, JobsStand, JobStands, live_claims, staged_block}
 use Rattle.write_plan.specs.eof_laws.log_checkpoint.world_model.Stands.{IsSane}

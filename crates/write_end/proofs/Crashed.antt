@@ -14,14 +14,14 @@ use Rattle.oplog_entry.specs.layout_model.PlaceLaws.{behind_log-not_journaled, b
 use Rattle.oplog_entry.specs.layout_model.Places.{Geometry, log_line}
 use Rattle.oplog_entry.specs.image_model.Honest.{IsHonest}
 use Rattle.oplog_entry.specs.image_model.Volume.{Volume}
-use Rattle.k_split_laws.proofs.k_split_proofs.LogLaws.{data_beside}
-use Rattle.k_split_laws.specs.k_split.Laps.{IsLogWord}
-use Rattle.k_split_laws.specs.list_laws.Members.{In}
-use Rattle.k_split_laws.specs.posix_spec.Run.{Unfinished, run}
-use Rattle.k_split_laws.specs.posix_spec.State.{State}
-use Rattle.k_split_laws.specs.posix_types.declared.item.Item.{Item}
-use Rattle.k_split_laws.specs.volume_laws.ImageLaws.{journaled-other}
-use Rattle.k_split_laws.specs.volume_laws.LineWords.{data_word}
+use Rattle.in_place.proofs.k_split_laws_proofs.k_split_proofs.LogLaws.{data_beside}
+use Rattle.in_place.specs.k_split_laws.k_split.Laps.{IsLogWord}
+use Rattle.in_place.specs.k_split_laws.list_laws.Members.{In}
+use Rattle.in_place.specs.k_split_laws.posix_spec.Run.{Unfinished, run}
+use Rattle.in_place.specs.k_split_laws.posix_spec.State.{State}
+use Rattle.in_place.specs.k_split_laws.posix_types.declared.item.Item.{Item}
+use Rattle.in_place.specs.k_split_laws.volume_laws.ImageLaws.{journaled-other}
+use Rattle.in_place.specs.k_split_laws.volume_laws.LineWords.{data_word}
 use Rattle.write_jobs.specs.world_image_laws.Images.{StandsFor}
 use Rattle.write_jobs.specs.world_image_laws.Promised.{IsKept, KeepsPromise}
 use Rattle.write_jobs.specs.world_image_laws.Back.{IsPutBack}

@@ -17,14 +17,14 @@ use Rattle.oplog_entry.specs.image_model.Content.{disk_of}
 use Rattle.oplog_entry.specs.image_model.Volume.{Volume}
 use Rattle.write_plan.specs.extent_model.Extents.{is_within}
 use Rattle.write_plan.specs.file_table.Files.{Files}
-use Rattle.k_split_laws.specs.k_split_model.View.{View}
-use Rattle.k_split_laws.specs.list_laws.Members.{In, pushed-In}
-use Rattle.k_split_laws.specs.posix_types.declared.call.Call.{Call}
-use Rattle.k_split_laws.specs.posix_types.declared.call.Mode.{Mode}
-use Rattle.k_split_laws.specs.posix_types.declared.item.Item.{Item}
-use Rattle.k_split_laws.specs.posix_tables.Open.{Tables}
-use Rattle.k_split_laws.specs.posix_spec.Run.{run}
-use Rattle.k_split_laws.specs.posix_spec.State.{State}
+use Rattle.in_place.specs.k_split_laws.k_split_model.View.{View}
+use Rattle.in_place.specs.k_split_laws.list_laws.Members.{In, pushed-In}
+use Rattle.in_place.specs.k_split_laws.posix_types.declared.call.Call.{Call}
+use Rattle.in_place.specs.k_split_laws.posix_types.declared.call.Mode.{Mode}
+use Rattle.in_place.specs.k_split_laws.posix_types.declared.item.Item.{Item}
+use Rattle.in_place.specs.k_split_laws.posix_tables.Open.{Tables}
+use Rattle.in_place.specs.k_split_laws.posix_spec.Run.{run}
+use Rattle.in_place.specs.k_split_laws.posix_spec.State.{State}
 use Rattle.write_plan.specs.eof_laws.log_checkpoint.posix_laws.Puts.{PutsWhole}
 use Rattle.write_jobs.specs.world_image_laws.Amid.{among_own}
 use Rattle.write_jobs.specs.world_image_laws.Back.{calls_among, calls_in_log, IsPutBack}
@@ -40,8 +40,8 @@ use Rattle.write_jobs.specs.world_image_laws.world_model.Stands.{number}
 use Rattle.live_model.specs.Flying.{IsOut as IsOutWord}
 use Rattle.live_model.specs.Standing.{AreJobsOf, AreLinesLent}
 use Rattle.write_jobs.specs.Jobs.{FilledView}
-use Rattle.k_split_laws.specs.k_journal.declared.outcomes.Commit.{Commit}
-use Rattle.k_split_laws.specs.Left.{IsLeftOf}
+use Rattle.in_place.specs.k_split_laws.k_journal.declared.outcomes.Commit.{Commit}
+use Rattle.in_place.specs.k_split_laws.Left.{IsLeftOf}
 use Rattle.in_place.specs.Placing.{LosesPlacing, SameBeside}
 use Rattle.write_end.specs.Blocks.{AreHome}
 use Rattle.write_end.specs.Ends.{HasJob}

@@ -6,10 +6,10 @@ use Rattle.oplog_entry.specs.pm_model.Words.{Words}
 use Rattle.oplog_entry.specs.layout_model.Journal.{journaled}
 use Rattle.oplog_entry.specs.layout_model.declared.lines.Draft.{Draft}
 use Rattle.oplog_entry.specs.image_model.Volume.{Volume}
-use Rattle.k_split_laws.specs.list_laws.Members.{In}
-use Rattle.k_split_laws.specs.posix_types.declared.item.Item.{Item}
-use Rattle.k_split_laws.specs.posix_spec.Run.{Unfinished}
-use Rattle.k_split_laws.specs.posix_spec.State.{State}
+use Rattle.in_place.specs.k_split_laws.list_laws.Members.{In}
+use Rattle.in_place.specs.k_split_laws.posix_types.declared.item.Item.{Item}
+use Rattle.in_place.specs.k_split_laws.posix_spec.Run.{Unfinished}
+use Rattle.in_place.specs.k_split_laws.posix_spec.State.{State}
 use Rattle.write_jobs.specs.world_image_laws.Back.{IsPutBack, jobs_in_log}
 use Rattle.write_jobs.specs.world_image_laws.Promised.{IsKept}
 use Rattle.write_plan.specs.eof_laws.log_checkpoint.world_model.Jobs.{unfinished_call, Job}

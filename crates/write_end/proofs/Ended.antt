@@ -19,18 +19,18 @@ use Rattle.oplog_entry.specs.image_model.Honest.{IsHonest}
 use Rattle.oplog_entry.specs.image_model.Volume.{Volume}
 use Rattle.live_model.specs.Flying.{IsOut as IsOutWord}
 use Rattle.write_jobs.specs.Blocks.{ArePutBack, SpellWhole}
-use Rattle.k_split_laws.specs.list_laws.Members.{In, pushed-In}
+use Rattle.in_place.specs.k_split_laws.list_laws.Members.{In, pushed-In}
 use Rattle.write_plan.specs.eof_laws.log_checkpoint.posix_laws.Puts.{PutsWhole}
-use Rattle.k_split_laws.specs.posix_spec.Run.{Unfinished, run}
-use Rattle.k_split_laws.specs.posix_types.declared.call.Call.{Call}
-use Rattle.k_split_laws.specs.posix_types.declared.call.Who.{Who}
-use Rattle.k_split_laws.specs.posix_types.declared.item.Item.{Item}
+use Rattle.in_place.specs.k_split_laws.posix_spec.Run.{Unfinished, run}
+use Rattle.in_place.specs.k_split_laws.posix_types.declared.call.Call.{Call}
+use Rattle.in_place.specs.k_split_laws.posix_types.declared.call.Who.{Who}
+use Rattle.in_place.specs.k_split_laws.posix_types.declared.item.Item.{Item}
 use Rattle.write_plan.specs.posix_tables.Open.{same_who}
-use Rattle.k_split_laws.specs.posix_spec.State.{State}
-use Rattle.k_split_laws.specs.volume_laws.ImageLaws.{journaled-other}
-use Rattle.k_split_laws.specs.volume_laws.LineWords.{data_word}
-use Rattle.k_split_laws.proofs.k_split_proofs.LogLaws.{data_beside}
-use Rattle.k_split_laws.specs.k_split.Laps.{IsLogWord}
+use Rattle.in_place.specs.k_split_laws.posix_spec.State.{State}
+use Rattle.in_place.specs.k_split_laws.volume_laws.ImageLaws.{journaled-other}
+use Rattle.in_place.specs.k_split_laws.volume_laws.LineWords.{data_word}
+use Rattle.in_place.proofs.k_split_laws_proofs.k_split_proofs.LogLaws.{data_beside}
+use Rattle.in_place.specs.k_split_laws.k_split.Laps.{IsLogWord}
 use Rattle.write_plan.specs.eof_laws.log_checkpoint.world_write_laws.JobSteps.{Valid-front}
 use Rattle.write_plan.specs.eof_laws.log_checkpoint.world_model.Lines.{AreLinesOut}
 use Rattle.write_plan.specs.eof_laws.log_checkpoint.world_model.JobLaws.{HoldsWhole-found, Valid-dropped}

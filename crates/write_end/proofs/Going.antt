@@ -8,15 +8,15 @@ use Rattle.oplog_entry.specs.pm_model.Words.{Words}
 use Rattle.oplog_entry.specs.layout_model.Journal.{IsSound, journaled}
 use Rattle.oplog_entry.specs.layout_model.Places.{Geometry}
 use Rattle.oplog_entry.specs.layout_model.declared.lines.Draft.{Draft}
-use Rattle.k_split_laws.specs.list_laws.Members.{In}
-use Rattle.k_split_laws.proofs.Cuts.{left_same}
-use Rattle.k_split_laws.specs.Left.{IsLeftOf}
-use Rattle.k_split_laws.specs.posix_types.declared.call.Mode.{Mode}
-use Rattle.k_split_laws.specs.k_split_model.View.{View}
-use Rattle.k_split_laws.specs.posix_types.declared.item.Item.{Item}
-use Rattle.k_split_laws.specs.posix_tables.Open.{Tables}
-use Rattle.k_split_laws.specs.posix_spec.Run.{run}
-use Rattle.k_split_laws.specs.posix_spec.State.{State}
+use Rattle.in_place.specs.k_split_laws.list_laws.Members.{In}
+use Rattle.in_place.proofs.k_split_laws_proofs.Cuts.{left_same}
+use Rattle.in_place.specs.k_split_laws.Left.{IsLeftOf}
+use Rattle.in_place.specs.k_split_laws.posix_types.declared.call.Mode.{Mode}
+use Rattle.in_place.specs.k_split_laws.k_split_model.View.{View}
+use Rattle.in_place.specs.k_split_laws.posix_types.declared.item.Item.{Item}
+use Rattle.in_place.specs.k_split_laws.posix_tables.Open.{Tables}
+use Rattle.in_place.specs.k_split_laws.posix_spec.Run.{run}
+use Rattle.in_place.specs.k_split_laws.posix_spec.State.{State}
 use Rattle.write_jobs.specs.world_image_laws.Changed.{sound_headed}
 use Rattle.write_jobs.specs.world_image_laws.Back.{IsKeptBack}
 use Rattle.write_jobs.specs.world_image_laws.InLog.{kept_back_more}

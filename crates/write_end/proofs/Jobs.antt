@@ -14,14 +14,14 @@ use Rattle.oplog_entry.specs.layout_model.Entries.{is_draft}
 use Rattle.oplog_entry.specs.layout_model.Places.{is_data_block}
 use Rattle.oplog_entry.specs.image_model.Rules.{AreApart, file_blocks_of}
 use Rattle.oplog_entry.specs.image_model.Volume.{extents, inode, Volume}
-use Rattle.k_split_laws.specs.extent_model.Covers.{covers-disk_at}
+use Rattle.in_place.specs.k_split_laws.extent_model.Covers.{covers-disk_at}
 use Rattle.write_jobs.specs.Blocks.{AreOut}
-use Rattle.k_split_laws.specs.list_laws.Members.{In}
-use Rattle.k_split_laws.specs.posix_types.declared.item.Item.{Item}
-use Rattle.k_split_laws.specs.posix_spec.Run.{Unfinished}
-use Rattle.k_split_laws.specs.posix_spec.State.{State}
-use Rattle.k_split_laws.specs.volume_laws.OwnerLaws.{IsOnePlace, one_owner}
-use Rattle.k_split_laws.specs.volume_laws.PoolLaws.{covered-in_data}
+use Rattle.in_place.specs.k_split_laws.list_laws.Members.{In}
+use Rattle.in_place.specs.k_split_laws.posix_types.declared.item.Item.{Item}
+use Rattle.in_place.specs.k_split_laws.posix_spec.Run.{Unfinished}
+use Rattle.in_place.specs.k_split_laws.posix_spec.State.{State}
+use Rattle.in_place.specs.k_split_laws.volume_laws.OwnerLaws.{IsOnePlace, one_owner}
+use Rattle.in_place.specs.k_split_laws.volume_laws.PoolLaws.{covered-in_data}
 use Rattle.write_plan.specs.eof_laws.log_checkpoint.world_model.Lent.{once_named}
 use Rattle.write_plan.specs.eof_laws.log_checkpoint.world_model.Jobs.{IsStagedIn, Job, JobsStand, JobStands, live_claims, staged_block}
 use Rattle.write_plan.specs.eof_laws.log_checkpoint.world_model.Stands.{IsSane}

@@ -11,7 +11,7 @@ use Rattle.layout_model.specs.block_counts.declared.TheConstants.{LONGEST_FILE, 
 use Rattle.write_jobs.specs.world_image_laws.image_model.Volume.{inode}
 use Rattle.write_plan.specs.file_table.Files.{Files}
 use Rattle.write_jobs.specs.world_image_laws.k_split_model.View.{View}
-use Rattle.k_split_laws.specs.k_journal.declared.outcomes.Commit.{Commit}
+use Rattle.in_place.specs.k_split_laws.k_journal.declared.outcomes.Commit.{Commit}
 use Rattle.write_plan.specs.list_laws.Members.{In}
 use Rattle.posix_types.specs.declared.call.Call.{Call}
 use Rattle.posix_types.specs.declared.call.Mode.{Mode}

@@ -18,5 +18,5 @@ pub mod Stopped
 pub mod Apart
 pub mod LogLines
 pub mod Crashed
-pub use Rattle.k_split_laws.proofs.k_split_proofs
+pub use Rattle.in_place.proofs.k_split_laws_proofs.k_split_proofs
 pub use Rattle.write_jobs.proofs as write_jobs_proofs

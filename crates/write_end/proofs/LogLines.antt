@@ -12,8 +12,8 @@ use Rattle.oplog_entry.specs.layout_model.Entries.{encode_entry}
 use Rattle.oplog_entry.specs.layout_model.Places.{log_line}
 use Rattle.oplog_entry.specs.image_model.LogRule.{HoldsEntry, IsAsAtFirst, words_of_line}
 use Rattle.oplog_entry.specs.image_model.Volume.{Volume}
-use Rattle.k_split_laws.specs.k_split.Laps.{IsLogWord}
-use Rattle.k_split_laws.specs.block_io.Lines.{line_at}
+use Rattle.in_place.specs.k_split_laws.k_split.Laps.{IsLogWord}
+use Rattle.in_place.specs.k_split_laws.block_io.Lines.{line_at}
 use Rattle.oplog_entry.specs.EntryBytes.{encode_entry-small, length-encode_entry}
 use Rattle.oplog_entry.specs.EntryLines.{entry_words}
 use Rattle.write_plan.specs.eof_laws.log_checkpoint.world_model.Lines as lined

@@ -2,12 +2,12 @@
 use Rattle.oplog_entry.specs.layout_model.declared.lines.Draft.{Draft}
 use Rattle.oplog_entry.specs.layout_model.declared.lines.Kind.TheVariants.{Staging}
 use Rattle.oplog_entry.specs.image_model.Volume.{Volume, free_inode, inode}
-use Rattle.k_split_laws.specs.list_laws.Members.{In}
+use Rattle.in_place.specs.k_split_laws.list_laws.Members.{In}
 use Rattle.oplog_entry.specs.pm_model.Parts.{Part}
 use Rattle.oplog_entry.specs.pm_model.Words.{Words}
-use Rattle.k_split_laws.specs.posix_spec.State.{State}
-use Rattle.k_split_laws.specs.posix_types.declared.call.Who.{Who}
-use Rattle.k_split_laws.specs.posix_tables.Open.{same_who}
+use Rattle.in_place.specs.k_split_laws.posix_spec.State.{State}
+use Rattle.in_place.specs.k_split_laws.posix_types.declared.call.Who.{Who}
+use Rattle.in_place.specs.k_split_laws.posix_tables.Open.{same_who}
 use Rattle.std.proofs.Common.{Bool, List, Some, [], ap, arith, cond, false, inl, inr, length, not, refl, subst, suc, sym, true, zero, ℕ, ◌++◌, ◌<◌, ◌∙◌, ◌∷◌, ◌≡◌, ◌⊎◌}
 use Rattle.std.proofs.lemmas.Bool.{cases_lt}
 use Rattle.std.proofs.lemmas.List.{get_or_past, length-map}

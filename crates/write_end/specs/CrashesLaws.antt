@@ -7,14 +7,14 @@ use Rattle.oplog_entry.specs.pm_model.Words.{Words}
 use Rattle.oplog_entry.specs.layout_model.declared.lines.Draft.{Draft}
 use Rattle.oplog_entry.specs.layout_model.Places.{Geometry, log_line}
 use Rattle.oplog_entry.specs.image_model.Volume.{Volume}
-use Rattle.k_split_laws.specs.k_split_model.View.{View}
-use Rattle.k_split_laws.specs.k_split.Laps.{IsLogWord}
-use Rattle.k_split_laws.specs.block_io.Lines.{LinesComeBack}
-use Rattle.k_split_laws.specs.list_laws.Members.{In}
-use Rattle.k_split_laws.specs.posix_types.declared.item.Item.{Item}
-use Rattle.k_split_laws.specs.posix_tables.Open.{Tables}
-use Rattle.k_split_laws.specs.posix_spec.Run.{Unfinished, run}
-use Rattle.k_split_laws.specs.posix_spec.State.{State}
+use Rattle.in_place.specs.k_split_laws.k_split_model.View.{View}
+use Rattle.in_place.specs.k_split_laws.k_split.Laps.{IsLogWord}
+use Rattle.in_place.specs.k_split_laws.block_io.Lines.{LinesComeBack}
+use Rattle.in_place.specs.k_split_laws.list_laws.Members.{In}
+use Rattle.in_place.specs.k_split_laws.posix_types.declared.item.Item.{Item}
+use Rattle.in_place.specs.k_split_laws.posix_tables.Open.{Tables}
+use Rattle.in_place.specs.k_split_laws.posix_spec.Run.{Unfinished, run}
+use Rattle.in_place.specs.k_split_laws.posix_spec.State.{State}
 use Rattle.write_jobs.specs.world_image_laws.Promised.{KeepsPromise}
 use Rattle.write_plan.specs.eof_laws.log_checkpoint.world_model.Lines.{AreLinesOut}
 use Rattle.live_model.specs.Standing.{AreLinesLent, Kept, JobOut, StandsAt}

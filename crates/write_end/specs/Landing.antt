@@ -6,21 +6,21 @@ use Rattle.oplog_entry.specs.layout_model.Journal.{journaled}
 use Rattle.oplog_entry.specs.layout_model.declared.lines.Draft.{Draft}
 use Rattle.in_place.specs.Holes.{IsPresent}
 use Rattle.in_place.specs.Placing.{CanPlace, LosesPlacing, Places}
-use Rattle.k_split_laws.specs.k_journal.declared.outcomes.Commit.{Commit}
-use Rattle.k_split_laws.specs.k_split_model.View.{View}
-use Rattle.k_split_laws.specs.posix_types.declared.call.Call.{Call}
-use Rattle.k_split_laws.specs.posix_types.declared.call.Mode.{Mode}
-use Rattle.k_split_laws.specs.posix_types.declared.item.Item.{Item}
-use Rattle.k_split_laws.specs.posix_tables.Open.{Tables}
-use Rattle.k_split_laws.specs.posix_spec.Run.{after_call, run}
-use Rattle.k_split_laws.specs.posix_spec.State.{State}
+use Rattle.in_place.specs.k_split_laws.k_journal.declared.outcomes.Commit.{Commit}
+use Rattle.in_place.specs.k_split_laws.k_split_model.View.{View}
+use Rattle.in_place.specs.k_split_laws.posix_types.declared.call.Call.{Call}
+use Rattle.in_place.specs.k_split_laws.posix_types.declared.call.Mode.{Mode}
+use Rattle.in_place.specs.k_split_laws.posix_types.declared.item.Item.{Item}
+use Rattle.in_place.specs.k_split_laws.posix_tables.Open.{Tables}
+use Rattle.in_place.specs.k_split_laws.posix_spec.Run.{after_call, run}
+use Rattle.in_place.specs.k_split_laws.posix_spec.State.{State}
 use Rattle.write_plan.specs.eof_laws.log_checkpoint.world_model.JobLaws.{acted}
 use Rattle.write_plan.specs.eof_laws.log_checkpoint.world_model.Jobs.{HasParts, HoldsWhole, IsInFront, Job, put_bytes_of}
 use Rattle.live_model.specs.file_table.Files.{Files}
 use Rattle.live_model.specs.Jobs.{SpellCall, without}
 use Rattle.live_model.specs.Standing.{JobOut, StandsAt}
 use Rattle.write_jobs.specs.Jobs.{FilledView}
-use Rattle.k_split_laws.specs.list_laws.Members.{In}
+use Rattle.in_place.specs.k_split_laws.list_laws.Members.{In}
 use Rattle.write_end.specs.Ends.{call_out, finished, HasJob, LeavesFinished}
 use Rattle.write_end.specs.LosingLaws.{AreSpelled, claimed_by, ComesHome}
 use Rattle.write_end.specs.Lost.{IsLostWith}

@@ -6,20 +6,20 @@ pub mod LosingLaws
 pub mod Stops
 pub mod Landing
 pub mod CrashesLaws
-pub use Rattle.k_split_laws.specs.block_io
+pub use Rattle.in_place.specs.k_split_laws.block_io
 pub use Rattle.oplog_entry.specs.image_model
 pub use Rattle.in_place.specs as in_place
-pub use Rattle.k_split_laws.specs.k_split
-pub use Rattle.k_split_laws.specs.k_split_model
+pub use Rattle.in_place.specs.k_split_laws.k_split
+pub use Rattle.in_place.specs.k_split_laws.k_split_model
 pub use Rattle.oplog_entry.specs.layout_model
-pub use Rattle.k_split_laws.specs.list_laws
+pub use Rattle.in_place.specs.k_split_laws.list_laws
 pub use Rattle.live_model.specs as live_model
 pub use Rattle.oplog_entry.specs as oplog_entry
 pub use Rattle.oplog_entry.specs.pm_model
-pub use Rattle.k_split_laws.specs.posix_spec
-pub use Rattle.k_split_laws.specs.posix_types
-pub use Rattle.k_split_laws.specs.posix_tables
-pub use Rattle.k_split_laws.specs.volume_laws
+pub use Rattle.in_place.specs.k_split_laws.posix_spec
+pub use Rattle.in_place.specs.k_split_laws.posix_types
+pub use Rattle.in_place.specs.k_split_laws.posix_tables
+pub use Rattle.in_place.specs.k_split_laws.volume_laws
 pub use Rattle.write_jobs.specs.world_image_laws as world_image_laws
 pub use Rattle.write_plan.specs.eof_laws.log_checkpoint.world_model
 pub use Rattle.write_jobs.specs as write_jobs

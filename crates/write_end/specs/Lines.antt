@@ -6,8 +6,8 @@ use Rattle.oplog_entry.specs.pm_model.Words.{Words}
 use Rattle.oplog_entry.specs.layout_model.declared.lines.Draft.{Draft}
 use Rattle.oplog_entry.specs.layout_model.Places.{Geometry, log_line}
 use Rattle.oplog_entry.specs.image_model.LogRule.{HoldsEntry, IsAsAtFirst}
-use Rattle.k_split_laws.specs.block_io.Lines.{AreFrom, line_at}
-use Rattle.k_split_laws.specs.list_laws.Members.{In}
+use Rattle.in_place.specs.k_split_laws.block_io.Lines.{AreFrom, line_at}
+use Rattle.in_place.specs.k_split_laws.list_laws.Members.{In}
 use Rattle.oplog_entry.specs.EntryLines.{entry_words, IsPutOver}
 use Rattle.write_jobs.specs.Jobs.{FilledView}
 

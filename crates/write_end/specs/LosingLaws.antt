@@ -7,14 +7,14 @@ use Rattle.write_jobs.specs.Loans.{AreApart, ComeBack}
 use Rattle.oplog_entry.specs.layout_model.declared.lines.Draft.{Draft}
 use Rattle.oplog_entry.specs.layout_model.Places.{Geometry}
 use Rattle.oplog_entry.specs.image_model.Volume.{Volume}
-use Rattle.k_split_laws.specs.k_split_model.View.{View}
-use Rattle.k_split_laws.specs.list_laws.Members.{In}
-use Rattle.k_split_laws.specs.Left.{IsLeftOf}
-use Rattle.k_split_laws.specs.posix_types.declared.call.Mode.{Mode}
-use Rattle.k_split_laws.specs.posix_types.declared.item.Item.{Item}
-use Rattle.k_split_laws.specs.posix_tables.Open.{Tables}
-use Rattle.k_split_laws.specs.posix_spec.Run.{Unfinished, run}
-use Rattle.k_split_laws.specs.posix_spec.State.{State}
+use Rattle.in_place.specs.k_split_laws.k_split_model.View.{View}
+use Rattle.in_place.specs.k_split_laws.list_laws.Members.{In}
+use Rattle.in_place.specs.k_split_laws.Left.{IsLeftOf}
+use Rattle.in_place.specs.k_split_laws.posix_types.declared.call.Mode.{Mode}
+use Rattle.in_place.specs.k_split_laws.posix_types.declared.item.Item.{Item}
+use Rattle.in_place.specs.k_split_laws.posix_tables.Open.{Tables}
+use Rattle.in_place.specs.k_split_laws.posix_spec.Run.{Unfinished, run}
+use Rattle.in_place.specs.k_split_laws.posix_spec.State.{State}
 use Rattle.live_model.specs.Losses.{KeepsWhenLost}
 use Rattle.live_model.specs.Jobs.{without}
 use Rattle.live_model.specs.Standing.{IsSpellable, Kept, JobOut, StandsAt}

@@ -10,12 +10,12 @@ use Rattle.oplog_entry.specs.layout_model.declared.lines.Draft.{Draft}
 use Rattle.oplog_entry.specs.image_model.Volume.{Volume}
 use Rattle.live_model.specs.Flying.{IsOut}
 use Rattle.write_jobs.specs.Blocks.{AreOut}
-use Rattle.k_split_laws.specs.list_laws.Members.{In}
-use Rattle.k_split_laws.specs.posix_types.declared.call.Mode.{Mode}
-use Rattle.k_split_laws.specs.posix_types.declared.item.Item.{Item}
+use Rattle.in_place.specs.k_split_laws.list_laws.Members.{In}
+use Rattle.in_place.specs.k_split_laws.posix_types.declared.call.Mode.{Mode}
+use Rattle.in_place.specs.k_split_laws.posix_types.declared.item.Item.{Item}
 use Rattle.write_plan.specs.eof_laws.log_checkpoint.posix_laws.Puts.{PutsWhole}
-use Rattle.k_split_laws.specs.posix_spec.Run.{Unfinished, run}
-use Rattle.k_split_laws.specs.posix_spec.State.{State}
+use Rattle.in_place.specs.k_split_laws.posix_spec.Run.{Unfinished, run}
+use Rattle.in_place.specs.k_split_laws.posix_spec.State.{State}
 use Rattle.write_jobs.specs.world_image_laws.Back.{calls_in_log, IsPutBack}
 use Rattle.write_jobs.specs.world_image_laws.Promised.{IsKept}
 use Rattle.write_plan.specs.eof_laws.log_checkpoint.world_model.Lines.{IsClaimedLine}

@@ -6,13 +6,13 @@ use Rattle.oplog_entry.specs.layout_model.Places.{Geometry}
 use Rattle.write_plan.specs.eof_laws.log_checkpoint.file_overlay.declared.runs.Run.{Run}
 use Rattle.write_plan.specs.eof_laws.log_checkpoint.file_table.Files.{Files}
 use Rattle.write_plan.specs.eof_laws.log_checkpoint.fsync_relink.Publishes.{IsPublishDone, IsPublishStopped}
-use Rattle.k_split_laws.specs.k_journal.declared.outcomes.Commit.{Commit}
-use Rattle.k_split_laws.specs.k_split_model.View.{View}
-use Rattle.k_split_laws.specs.k_split.declared.faults.KFault.{KFault}
+use Rattle.in_place.specs.k_split_laws.k_journal.declared.outcomes.Commit.{Commit}
+use Rattle.in_place.specs.k_split_laws.k_split_model.View.{View}
+use Rattle.in_place.specs.k_split_laws.k_split.declared.faults.KFault.{KFault}
 use Rattle.write_plan.specs.eof_laws.log_checkpoint.Gathers.{IsGatherAnswer}
-use Rattle.k_split_laws.specs.Left.{IsLeftOf}
-use Rattle.k_split_laws.specs.posix_tables.Open.{Tables}
-use Rattle.k_split_laws.specs.posix_spec.State.{State}
+use Rattle.in_place.specs.k_split_laws.Left.{IsLeftOf}
+use Rattle.in_place.specs.k_split_laws.posix_tables.Open.{Tables}
+use Rattle.in_place.specs.k_split_laws.posix_spec.State.{State}
 use Rattle.write_plan.specs.eof_laws.log_checkpoint.staging_files.Keeps.{Staged}
 use Rattle.live_model.specs.Standing.{Kept, StandsAt}
 

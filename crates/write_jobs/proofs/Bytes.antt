@@ -4,7 +4,7 @@ use Rattle.std.proofs.Common.{arith, ap, ◌∙◌, sym, inl, inr}
 use Rattle.std.proofs.lemmas.Bool.{cases_lt}
 use Rattle.std.proofs.lemmas.Bool.Decides.{nat_tests}
 use Rattle.std.proofs.lemmas.List.{get_or-append_right, get_or-drop, get_or-replicate, get_or-take, get_or_append_left, get_or_past, length-append, length-replicate, length-take}
-use Rattle.posix_tables.specs.Bytes.{overwritten, resized}
+use Rattle.world_image_laws.specs.posix_tables.Bytes.{overwritten, resized}
 
 min_rest : (m n : ℕ) → min m n + (m - n) ≡ m
 min_rest m n = grind arith

@@ -4,7 +4,7 @@ use Rattle.std.proofs.Common.{arith, ap, ◌∙◌, sym}
 use Rattle.std.proofs.lemmas.Bool.Decides.{nat_tests}
 use Rattle.std.proofs.lemmas.Grind.{same_number_lists}
 use Rattle.std.proofs.lemmas.List.{get_or-append_right, get_or_append_left, length-append}
-use Rattle.posix_tables.specs.Bytes.{resized}
+use Rattle.world_image_laws.specs.posix_tables.Bytes.{resized}
 use Rattle.write_jobs.specs.Contents.{framed, framed_bytes, SpellBytes, staged_bytes}
 use Rattle.write_jobs.proofs.Bytes.{index-resized, length-resized}
 

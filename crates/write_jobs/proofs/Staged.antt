@@ -3,7 +3,7 @@ use Rattle.std.specs.Prelude.{◌≡◌, ◌<◌, ◌+◌, ◌-◌, ◌*◌, ◌
 use Rattle.std.proofs.Common.{arith, ap, ◌∙◌, sym}
 use Rattle.std.proofs.lemmas.Bool.Decides.{nat_tests}
 use Rattle.std.proofs.lemmas.List.{get_or-drop, get_or-take}
-use Rattle.posix_tables.specs.Bytes.{bytes_from, overwritten}
+use Rattle.world_image_laws.specs.posix_tables.Bytes.{bytes_from, overwritten}
 use Rattle.write_jobs.specs.Contents.{staged_bytes}
 use Rattle.write_jobs.specs.Laws.{SpellsWhole, StagesWhole}
 use Rattle.write_jobs.proofs.Bytes.{index-overwritten, index-resized, length-resized}

@@ -1,6 +1,6 @@
 -- Bytes as the words of whole blocks.
 use Rattle.std.specs.Prelude.{◌≡◌, ◌<◌, ◌*◌, ◌+◌, ◌/◌, ◌%◌, ◌^◌, ℕ, List, ◌++◌, length, slice_index}
-use Rattle.posix_tables.specs.Bytes.{overwritten, resized}
+use Rattle.world_image_laws.specs.posix_tables.Bytes.{overwritten, resized}
 
 -- The words spell the bytes, eight of them each, the first one lowest.
 pub record SpellBytes (words bytes : List ℕ) : Type 0 where

@@ -11,7 +11,7 @@ use Rattle.world_write_laws.specs.image_model.Room.{unused_blocks}
 use Rattle.world_write_laws.specs.image_model.Volume.{Volume}
 use Rattle.world_write_laws.specs.k_split_model.Stands.{Stands}
 use Rattle.world_write_laws.specs.list_laws.Members.{In}
-use Rattle.posix_tables.specs.Bytes.{bytes_from, overwritten}
+use Rattle.world_image_laws.specs.posix_tables.Bytes.{bytes_from, overwritten}
 use Rattle.world_write_laws.specs.posix_spec.Run.{after_call}
 use Rattle.world_write_laws.specs.posix_spec.State.{room, State}
 use Rattle.world_write_laws.specs.posix_laws.Views.{need_of}

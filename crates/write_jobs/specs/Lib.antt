@@ -13,7 +13,7 @@ pub use Rattle.k_split.specs.k_split_model
 pub use Rattle.layout_model.specs as layout_model
 pub use Rattle.world_write_laws.specs.list_laws
 pub use Rattle.pm_lines.specs.pm_model
-pub use Rattle.posix_tables.specs as posix_tables
+pub use Rattle.world_image_laws.specs.posix_tables as posix_tables
 pub use Rattle.world_write_laws.specs.volume_laws
 pub use Rattle.world_image_laws.specs as world_image_laws
 pub use Rattle.world_write_laws.specs.world_model

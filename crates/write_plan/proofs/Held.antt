@@ -27,10 +27,10 @@ use Rattle.eof_laws.specs.k_split_model.MapChangesChanges.{holes}
 use Rattle.eof_laws.specs.k_split_model.Stands.{Stands}
 use Rattle.eof_laws.specs.k_split_model.View.{View}
 use Rattle.eof_laws.specs.posix_tables.Open.{Tables}
-use Rattle.relink_laws.specs.posix_spec.State.{State}
+use Rattle.fsync_relink.specs.posix_spec.State.{State}
 use Rattle.eof_laws.specs.volume_laws.PoolLaws.{unused-held}
 use Rattle.eof_laws.specs.volume_laws.Uses.{blocks_held, blocks_of}
-use Rattle.relink_laws.proofs.RelinkLaws.{has-chain}
+use Rattle.fsync_relink.proofs.RelinkLaws.{has-chain}
 use Rattle.live_model.specs.world_model.HeldLaws.{HeldIsTheSum}
 use Rattle.live_model.specs.world_model.Jobs.{live_claims}
 use Rattle.live_model.specs.world_model.Stands.{is_used}

@@ -11,7 +11,7 @@ use Rattle.eof_laws.specs.file_table.Files.{size_in}
 use Rattle.eof_laws.specs.posix_types.declared.call.Mode.{Mode}
 use Rattle.eof_laws.specs.posix_tables.Open.{Tables}
 use Rattle.eof_laws.specs.posix_tables.Room.{write_need}
-use Rattle.relink_laws.specs.posix_spec.State.{State}
+use Rattle.fsync_relink.specs.posix_spec.State.{State}
 use Rattle.live_model.specs.data_route.Writes.{plan_of}
 use Rattle.write_plan.specs.Asks.{room_in}
 use Rattle.live_model.specs.k_split.MapChanges.{free_blocks_in}

@@ -12,7 +12,7 @@
 //! - `first_writes`: Room for the first write of a lap, and for the holes of its file.
 //!
 //! Stands on `block_counts`, `posix_types`, `posix_tables`, `open_files`, `file_table`,
-//! `layout_model`, `file_overlay`, `live_model`, `relink_laws` and `eof_laws`.
+//! `layout_model`, `file_overlay`, `live_model`, `fsync_relink` and `eof_laws`.
 #![tactic(auto)]
 
 mod asks;

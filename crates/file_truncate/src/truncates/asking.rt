@@ -2,9 +2,9 @@
 ghost use Rattle.std.specs.Prelude.{◌≡◌, ◌≤◌};
 ghost use Rattle.file_truncate.specs.Truncates.{IsAsked, IsBeside, lacking_by};
 
+use in_place::truncate_row;
 use posix_tables::room::growth;
 use posix_types::Outcome;
-use zero_fill::truncate_row;
 
 /// How it goes.
 #[derive(Drop)]

@@ -1,21 +1,21 @@
 //! The changes of K-Split that a `truncate` makes.
 ghost use Rattle.std.specs.Prelude.{◌≡◌, ◌≤◌, ◌<◌, ◌+◌, ◌^◌, false, length, true};
 ghost use Rattle.posix_tables.specs.block_counts.declared.TheConstants.{LONGEST_FILE};
-ghost use Rattle.zero_fill.specs.layout_model.Places.{reserve};
-ghost use Rattle.zero_fill.specs.write_plan.image_model.Volume.{inode};
-ghost use Rattle.zero_fill.specs.write_plan.file_table.Files.{size_in};
+ghost use Rattle.in_place.specs.layout_model.Places.{reserve};
+ghost use Rattle.in_place.specs.write_plan.image_model.Volume.{inode};
+ghost use Rattle.in_place.specs.write_plan.file_table.Files.{size_in};
 ghost use Rattle.file_calls.specs.live_step_laws.k_map_plans.Plans.{IsLiveFile};
 ghost use Rattle.file_calls.specs.live_step_laws.k_split.MapChanges.{free_blocks_in};
-ghost use Rattle.zero_fill.specs.pm_model.Powers.{is_on, Steps};
+ghost use Rattle.in_place.specs.pm_model.Powers.{is_on, Steps};
 ghost use Rattle.file_truncate.specs.Truncates.{IsCleanAnswer, IsCommitPaid, IsGiven, IsSet, IsTruncatePaid};
 
 use crate::sizes::{KFault, KSplit, NoMemory};
 use crate::truncates::outcomes::Truncated;
+use in_place::{Commit, FileTable};
 use pm_lines::Power;
 use posix_tables::outcomes::answer;
 use posix_types::Reply;
 use std::alloc::Global;
-use zero_fill::{Commit, FileTable};
 
 // The rest of the last block of a file that grows is set to zero.
 fn clean_end(k: &mut KSplit, ino: u32, old: u64, size: u64, power: &mut Power) -> Commit

@@ -3,7 +3,7 @@ ghost use Rattle.std.specs.Prelude.{◌≡◌, ◌^◌, true};
 ghost use Rattle.file_calls.specs.eof_laws.Ends.{FilesEnd};
 ghost use Rattle.file_calls.specs.Answers.{KeepsEnds};
 ghost use Rattle.file_calls.specs.Runs.{RunsInSome};
-ghost use Rattle.zero_fill.specs.pm_model.Powers.{is_on, Steps};
+ghost use Rattle.in_place.specs.pm_model.Powers.{is_on, Steps};
 ghost use Rattle.file_truncate.specs.Truncates.{HasNothingStaged, IsLacking, IsTruncated};
 
 use crate::laws;
@@ -11,11 +11,11 @@ use crate::sizes::{KSplit, NoMemory, OpenFiles};
 use crate::truncates::asking::{Asked, ask, lacking};
 use crate::truncates::outcomes::Truncated;
 use crate::truncates::sizing::give_size;
+use in_place::{FileTable, room_by};
 use pm_lines::Power;
 use posix_tables::outcomes::answer;
 use posix_types::{Errno, Handle, Reply, Who};
 use std::alloc::Global;
-use zero_fill::{FileTable, room_by};
 
 /// Whether writes of other callers that are out, and need `needs` blocks together, leave too little room for a `truncate`
 /// that no row refuses: the blocks that it takes, and those that are left. Something may be staged of the file still.

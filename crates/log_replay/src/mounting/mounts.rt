@@ -16,7 +16,7 @@ ghost use Rattle.log_replay.specs.Quiet.{IsQuiet, IsSpent, IsSweepPaid, OnDone};
 ghost use Rattle.log_replay.specs.Resets.{IsClosed};
 ghost use Rattle.log_replay.specs.Sweeps.{AreSwept};
 ghost use Rattle.log_replay.specs.Replays.{MayReplay, ShowsTheSame};
-ghost use Rattle.relink_laws.specs.log_laws.Orders.{AreInOrder};
+ghost use Rattle.fsync_relink.specs.log_laws.Orders.{AreInOrder};
 
 use crate::mounting::faults::MountFault;
 use crate::mounting::resetting::reset;

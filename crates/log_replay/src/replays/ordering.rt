@@ -1,6 +1,6 @@
 //! The entries of a log in the order in which they are carried out.
 ghost use Rattle.std.specs.Prelude.{IfOk};
-ghost use Rattle.relink_laws.specs.log_laws.Orders.{AreInOrder};
+ghost use Rattle.fsync_relink.specs.log_laws.Orders.{AreInOrder};
 
 use layout_model::Draft;
 use std::alloc::AllocError;

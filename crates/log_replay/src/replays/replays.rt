@@ -1,8 +1,8 @@
 //! The live entries are carried out.
 ghost use Rattle.std.specs.Prelude.{◌≡◌, ◌*◌, ◌^◌, true, length};
-ghost use Rattle.relink_laws.specs.Moves.{move_for};
-ghost use Rattle.relink_laws.specs.log_laws.pm_model.Images.{Follows};
-ghost use Rattle.relink_laws.specs.log_laws.pm_model.Powers.{is_on, Steps};
+ghost use Rattle.fsync_relink.specs.Moves.{move_for};
+ghost use Rattle.fsync_relink.specs.log_laws.pm_model.Images.{Follows};
+ghost use Rattle.fsync_relink.specs.log_laws.pm_model.Powers.{is_on, Steps};
 ghost use Rattle.log_replay.specs.Sheds.{IsSameDevice};
 ghost use Rattle.log_replay.specs.Replays.{IsReplayAnswer, IsReplayPaid, MayReplay, ShowsTheSame, stopped_by};
 

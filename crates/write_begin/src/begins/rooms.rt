@@ -8,7 +8,7 @@ ghost use Rattle.write_begin.specs.Begins.{IsPaid};
 ghost use Rattle.write_begin.specs.Goes.{filled_in, FitsTarget, Goes, GoesWhole, HasRoom, IsBareAtRest, IsGone, IsJobBegun, KeepsMaps, reached_run};
 ghost use Rattle.data_route.specs.Writes.{plan_of};
 ghost use Rattle.in_place.specs.Holes.{absent_count, HasRuns, holes_need, IsHolesAnswer, IsHolesPaid};
-ghost use Rattle.zero_fill.specs.k_split_laws.k_split.MapChanges.{free_blocks_in};
+ghost use Rattle.in_place.specs.k_split_laws.k_split.MapChanges.{free_blocks_in};
 ghost use Rattle.write_plan.specs.eof_laws.block_io.Overwrites.{blocks_reached};
 ghost use Rattle.write_begin.specs.Rooms.{ArePresent, IsFrontFilled, IsTargetGone, LieWithin};
 ghost use Rattle.write_begin.specs.Stages.{Ready};

@@ -4,7 +4,7 @@ ghost use Rattle.posix_types.specs.declared.call.Call.{Call};
 ghost use Rattle.write_jobs.specs.pm_model.Powers.{is_on, Steps};
 ghost use Rattle.write_jobs.specs.world_image_laws.world_model.Jobs.{put_bytes_of};
 ghost use Rattle.in_place.specs.Placing.{CanPlace};
-ghost use Rattle.in_place.specs.zero_fill.Gaps.{IsClearPaid};
+ghost use Rattle.in_place.specs.Gaps.{IsClearPaid};
 ghost use Rattle.write_end.specs.Landing.{front_bytes, front_end, front_start, HasFront, IsFrontAnswer};
 
 use in_place::put_in_place;

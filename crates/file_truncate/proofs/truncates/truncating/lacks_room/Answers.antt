@@ -1,7 +1,7 @@
 use Rattle.std.proofs.Common.{ℕ, ap, ◌∙◌, sym, subst}
 use Rattle.std.specs.Prelude.{option_map}
-use Rattle.zero_fill.specs.layout_model.Places.{data_blocks}
-use Rattle.zero_fill.specs.write_plan.file_table.Files.{size_in}
+use Rattle.in_place.specs.layout_model.Places.{data_blocks}
+use Rattle.in_place.specs.write_plan.file_table.Files.{size_in}
 use Rattle.file_calls.specs.open_files.Found.{description_in}
 use Rattle.file_truncate.specs.Truncates.{IsAsked, IsLacking}
 use Rattle.file_truncate.proofs.Asked.{line_there}

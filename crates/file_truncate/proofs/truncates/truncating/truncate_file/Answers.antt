@@ -1,7 +1,7 @@
 use Rattle.std.proofs.Common.{◌-◌, ◌≤◌, refl, ap, ◌∙◌, sym, subst}
 use Rattle.std.specs.Prelude.{option_map}
-use Rattle.zero_fill.specs.layout_model.Places.{data_blocks}
-use Rattle.zero_fill.specs.write_plan.file_table.Files.{size_in}
+use Rattle.in_place.specs.layout_model.Places.{data_blocks}
+use Rattle.in_place.specs.write_plan.file_table.Files.{size_in}
 use Rattle.posix_tables.specs.Room.{growth}
 use Rattle.file_calls.specs.open_files.Found.{description_in}
 use Rattle.file_truncate.specs.Truncates.{Answers}

@@ -3,7 +3,7 @@ use Rattle.k_check.specs.layout_model.Journal.{journaled}
 use Rattle.k_check.specs.image_model.Live.{live_entries}
 use Rattle.k_check.specs.image_model.Volume.{volume}
 use Rattle.k_check.specs.pm_model.Images.{words_of}
-use Rattle.relink_laws.specs.log_laws.Orders.{AreInOrder}
+use Rattle.fsync_relink.specs.log_laws.Orders.{AreInOrder}
 use Rattle.log_replay.proofs.MountingMounting.{answer-recovered, order-recovered, too}
 use Rattle.log_replay.proofs.Spending.{spent-none, spent-then}
 use Rattle.log_replay.proofs.mounting.mounts.mount_checked.Goals as goal

@@ -1,6 +1,6 @@
 use Rattle.std.proofs.Common.{◌+◌, ◌<◌, length, drop, ◌∷◌, Ok, Err, refl, sym, ◌∙◌, subst, arith}
 use Rattle.std.proofs.lemmas.Bool.{both_ways}
-use Rattle.relink_laws.specs.log_laws.pm_model.PowerLaws.{Steps-none}
+use Rattle.fsync_relink.specs.log_laws.pm_model.PowerLaws.{Steps-none}
 use Rattle.k_split.specs.k_map_plans.Plans.{MayMove}
 use Rattle.log_replay.proofs.Devices.{device-mapped, device-none, device-then}
 use Rattle.k_split.specs.MapChanges.{IsMovedWith, IsRelinkAnswer}

@@ -1,5 +1,5 @@
 use Rattle.std.proofs.Common.{◌≡◌, ◌*◌, ◌^◌, drop, true}
-use Rattle.relink_laws.specs.log_laws.pm_model.Powers.{is_on, Steps}
+use Rattle.fsync_relink.specs.log_laws.pm_model.Powers.{is_on, Steps}
 use Rattle.log_replay.specs.Sheds.{IsSameDevice}
 use Rattle.log_replay.proofs.Steps.{IsOnTheWay}
 use Rattle.log_replay.proofs.replays.replays.replay.Given as goal

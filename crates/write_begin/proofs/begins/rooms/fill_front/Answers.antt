@@ -1,6 +1,6 @@
 use Rattle.std.proofs.Common.{refl, subst, sym, Ok, Option, Result, ℕ}
 use Rattle.std.specs.declared.alloc.AllocError.{AllocError}
-use Rattle.in_place.specs.declared.holes.Holes.{Holes}
+use Rattle.in_place.specs.declared.placing.holes.Holes.{Holes}
 use Rattle.write_begin.specs.Rooms.{IsFrontFilled, LiesWithin}
 use Rattle.write_begin.proofs.Fronts.{front_filled}
 use Rattle.write_begin.proofs.begins.rooms.fill_front.Goals as goal

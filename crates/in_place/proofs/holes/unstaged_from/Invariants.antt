@@ -1,7 +1,0 @@
-use Rattle.std.proofs.Common.{◌≡◌, ◌<◌, ◌≤◌, ℕ}
-use Rattle.std.specs.Prelude.{None}
-use Rattle.zero_fill.specs.file_overlay.Runs.{staged_at}
-use Rattle.in_place.proofs.holes.unstaged_from.Given as goal
-
-abbrev pub invariant-loop-block : goal.invariant-loop-block
-invariant-loop-block l = (m : ℕ) → l.first ≤ m → m < l.block → staged_at l.overlay.runs m ≡ None

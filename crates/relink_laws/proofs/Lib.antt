@@ -1,8 +1,0 @@
-mod Moved
-mod OwnBytes
-pub mod RelinkLaws
-pub mod ImageLaws
-pub mod WorldLaws
-pub mod StagingLaws
-pub use Rattle.k_split.proofs.k_plans_proofs as k_plans_proofs
-pub use Rattle.log_laws.proofs as log_laws_proofs

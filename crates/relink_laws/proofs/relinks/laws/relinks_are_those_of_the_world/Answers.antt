@@ -1,8 +1,0 @@
-use Rattle.relink_laws.proofs.WorldLaws.{gives-relinks, sane-in-order}
-use Rattle.relink_laws.proofs.relinks.laws.relinks_are_those_of_the_world.Goals as goal
-
-pub returns-clause-relinks : goal.returns-clause-relinks
-returns-clause-relinks c = gives-relinks
-
-pub returns-clause-sane : goal.returns-clause-sane
-returns-clause-sane c = sane-in-order

@@ -30,7 +30,7 @@ LAYERS: list[tuple[str, str]] = [
     ),
     (
         "The World as mathematics",
-        "world_model world_step_laws world_write_laws world_image_laws log_laws posix_mode_laws k_split_laws relink_laws",
+        "world_model world_step_laws world_write_laws world_image_laws log_laws posix_mode_laws k_split_laws",
     ),
     (
         "Data: what is staged, published and mounted",
@@ -38,7 +38,7 @@ LAYERS: list[tuple[str, str]] = [
     ),
     (
         "Writes, and the calls beside them",
-        "open_files write_jobs write_plan zero_fill in_place write_begin write_end file_calls file_publish file_truncate round_log "
+        "open_files write_jobs write_plan in_place write_begin write_end file_calls file_publish file_truncate round_log "
         "in_flight live_model live_step_laws eof_laws",
     ),
     (
@@ -47,7 +47,7 @@ LAYERS: list[tuple[str, str]] = [
         "schedule split_machine",
     ),
     ("The program", "script_text report_text split_cases outside command_line split_top splitfs"),
-    ("For threads: proved, and used by no command yet", "ruled_turn oplog_tail"),
+    ("For threads: proved, and used by no command yet", "ruled_turn oplog_tail thread_laws"),
 ]
 TESTS = "Tests"
 OTHERS = "Others"

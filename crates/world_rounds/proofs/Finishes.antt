@@ -1,5 +1,5 @@
 -- A job of the parts of a World finishes while the power is on.
-use Rattle.std.specs.Prelude.{◌≡◌, ◌≤◌, ◌<◌, ◌+◌, ◌^◌, ◌++◌, ℕ, true, false, List, [], ◌∷◌, length, Some, AllPairs, slice_index, slice_index_or, vec_len, refl}
+use Rattle.std.specs.Prelude.{◌≡◌, ◌≤◌, ◌<◌, ◌+◌, ◌++◌, ℕ, true, false, List, [], ◌∷◌, length, Some, AllPairs, slice_index, slice_index_or, vec_len, refl}
 use Rattle.std.specs.Vec.{vec_capacity}
 use Rattle.std.proofs.Common.{Global, Vec, arith, ap, ◌∙◌, sym, subst, inl, inr, length-append}
 use Rattle.std.proofs.lemmas.Bool.{cases_lt}
@@ -17,7 +17,6 @@ use Rattle.posix_types.specs.declared.item.Outcome.{Outcome}
 use Rattle.posix_types.specs.declared.reply.Reply.{Reply}
 use Rattle.posix_tables.specs.Outcomes.{answer}
 use Rattle.world_parts.specs.posix_spec.Step.{step}
-use Rattle.world_parts.specs.in_flight.Counters.{count_for, IsCounted}
 use Rattle.world_parts.specs.in_flight.Histories.{item_with}
 use Rattle.world_parts.specs.in_flight.live_model.Standing.{AreOfTwoThreads, JobOut}
 use Rattle.world_parts.specs.in_flight.live_model.Jobs.{without}
@@ -79,6 +78,15 @@ module _ (p : Parts) (kept : IsKept p) (awake : p.lost ≡ false) (out : p.lines
   pub room_for_item : vec_len p.history < vec_capacity p.history
   room_for_item = omega (arith, kept.room.items awake, some_in p.pending.items q is_out.there)
 
+  -- AN ITEM MAY BE ADDED for its caller.
+  pub may_return : (who : Who) → who ≡ job.who → MayAdd p who
+  may_return who own = subst (MayAdd p) (sym (own ∙ is_out.who)) (record {
+    caller = counted_next p kept q.who q.call next_job;
+    few = few_next p kept q.who q.call next_job;
+    room = room_for_item;
+    one_act = few_acts p kept;
+  })
+
   pub answers_so : (step (state_of (seen p)) q.who q.call).outcome ≡ answer (Reply.Count (length (put_bytes_of q.call)))
   answers_so = job_answers p.geometry p.k p.files.tables _ p.lines_out (length p.history.items) (state_of (seen p)) going.stands q is_out.there
 
@@ -131,15 +139,6 @@ module _ (p : Parts) (kept : IsKept p) (awake : p.lost ≡ false) (out : p.lines
       claims = omega (arith, kept.room.claims_on awake, one_less, capacity, len);
       empty = kept.room.empty;
       calls = omega (arith, kept.room.calls, one_less);
-    }
-
-    -- AN ITEM MAY BE ADDED.
-    pub may_add : MayAdd middle taken.who
-    may_add = record {
-      caller = subst (λ (x : JobOut). IsCounted x.who) (sym same) (counted_next p kept q.who q.call next_job);
-      few = subst (λ (x : JobOut). count_for p.counters.setup p.counters.threads x.who + 1 < 2 ^ 32) (sym same) (few_next p kept q.who q.call next_job);
-      room = room_for_item;
-      one_act = few_acts p kept;
     }
 
     module _ (r : Parts) (added : IsAdded taken.who taken.call outcome middle r) where

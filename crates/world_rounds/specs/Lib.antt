@@ -1,3 +1,5 @@
+pub mod Gathered
+pub mod Returned
 pub use Rattle.world_parts.specs.block_io
 pub use Rattle.world_parts.specs.file_table
 pub use Rattle.world_parts.specs.k_journal

@@ -13,6 +13,6 @@ mod ends;
 
 pub use ends::{finish_off, finish_on, give_up_off, give_up_on};
 pub use world_parts::{
-    Commit, Crashed, Ended, FilledJob, Job, JobOut, NoMemory, Parts, Unfinished, gather, lose_one,
-    put_lines,
+    Commit, Crashed, Ended, FileTable, FilledJob, Job, JobOut, NoMemory, Parts, Unfinished, gather,
+    lose_one, put_lines,
 };

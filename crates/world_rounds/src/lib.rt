@@ -15,7 +15,7 @@ mod laws;
 mod rounds;
 
 pub use job_ends::{
-    Commit, Crashed, Ended, FilledJob, Job, JobOut, NoMemory, Parts, Unfinished, finish_off,
-    finish_on, gather, give_up_off, give_up_on, lose_one, put_lines,
+    Commit, Crashed, Ended, FileTable, FilledJob, Job, JobOut, NoMemory, Parts, Unfinished,
+    finish_off, finish_on, gather, give_up_off, give_up_on, lose_one, put_lines,
 };
 pub use rounds::{an_unmount_ends_a_run, begin_lines, crash_lost, end_lines, end_run, keep_lines};

@@ -1,5 +1,5 @@
 //! A job ends: it finishes, or is given up.
-ghost use Rattle.std.specs.Prelude.{◌≡◌, ◌≢◌, ◌≤◌, ◌^◌, AllPairs, false, true, length};
+ghost use Rattle.std.specs.Prelude.{◌≡◌, ◌≢◌, ◌+◌, ◌<◌, ◌≤◌, ◌^◌, AllPairs, false, true, length};
 ghost use Rattle.posix_types.specs.declared.call.Mode.{Mode};
 ghost use Rattle.world_parts.specs.list_laws.Members.{In};
 ghost use Rattle.world_parts.specs.pm_model.Powers.{is_on, Steps, Supply};
@@ -10,8 +10,10 @@ ghost use Rattle.world_parts.specs.world_view_laws.Jobs.{over_by, GivesUp, IsOfW
 ghost use Rattle.world_parts.specs.world_view_laws.write_end.in_place.Placing.{CanPlace};
 ghost use Rattle.world_parts.specs.world_view_laws.write_end.in_place.Gaps.{IsClearPaid};
 ghost use Rattle.world_parts.specs.world_view_laws.write_end.Landing.{front_bytes, front_end, front_start, IsFrontAnswer};
+ghost use Rattle.world_parts.specs.Adds.{MayAdd};
 ghost use Rattle.world_parts.specs.Answers.{IsFinished};
 ghost use Rattle.world_parts.specs.Seen.{seen, IsKept};
+ghost use Rattle.world_rounds.specs.Returned.{IsReturned};
 
 use crate::laws;
 use layout_model::Draft;
@@ -74,6 +76,29 @@ fn write_front(
     }
 }
 
+// The power went as a job ended.
+fn cut_off(p: &mut Parts)
+    requires { p.old.acts + 1 < 2 ^ 64 }
+    ensures { p.new ≡ record p.old { acts = p.old.acts + 1; lost = true } }
+{
+    p.acts += 1;
+    p.lost = true;
+}
+
+// The job of a caller returns with how many bytes it put: its item stands at the end of the history.
+fn return_job(p: &mut Parts, who: Who)
+    requires callers { AllPairs standing.AreOfTwoThreads p.old.pending.items }
+    requires out { (q : standing.JobOut) × In q p.old.pending.items × (q.who ≡ who) }
+    requires may { MayAdd p.old who }
+    ensures { IsReturned who p.old p.new }
+{
+    let Some(job) = take_job(&mut p.pending, who) else {
+        unreachable!()
+    };
+    let outcome = answer(Reply::Count(put_count(&job.call)));
+    add(p, job.who, job.call, outcome);
+}
+
 /// A job finishes while the power is on: its item stands at the end of the history. In strict mode its call has
 /// acted at once; in sync mode its bytes before the first block of its entry are written in place first, and where
 /// the power goes on the way, its claim counts, and it stays out.
@@ -107,16 +132,11 @@ pub fn finish_on(p: &mut Parts, job: FilledJob, slot: u32, power: &mut Power) ->
     );
     match write_front(&mut p.k, &p.data, p.mode, &draft, call, power) {
         Commit::PowerLost => {
-            p.acts += 1;
-            p.lost = true;
+            cut_off(p);
             Finished::PowerLost
         }
         Commit::Done => {
-            let Some(pending) = take_job(&mut p.pending, who) else {
-                unreachable!()
-            };
-            let outcome = answer(Reply::Count(put_count(&pending.call)));
-            add(p, pending.who, pending.call, outcome);
+            return_job(p, who);
             Finished::Done
         }
     }

@@ -1,4 +1,5 @@
-use Rattle.std.proofs.Common.{◌≡◌, ◌≢◌, ◌∙◌, AllPairs, ap, arith, List, ℕ, subst, sym}
+use Rattle.std.specs.Prelude.{length, refl}
+use Rattle.std.proofs.Common.{◌≡◌, ◌≢◌, ◌∙◌, AllPairs, ap, List, subst, sym}
 use Rattle.posix_types.specs.declared.call.Mode.{Mode}
 use Rattle.posix_types.specs.declared.call.Who.{Who}
 use Rattle.posix_types.specs.declared.reply.Reply.{Reply}
@@ -6,9 +7,13 @@ use Rattle.posix_tables.specs.Outcomes.{answer}
 use Rattle.world_parts.specs.list_laws.Members.{In}
 use Rattle.world_parts.specs.in_flight.live_model.Standing.{AreOfTwoThreads, JobOut}
 use Rattle.world_parts.specs.in_flight.live_model.Jobs.{without}
+use Rattle.world_parts.specs.in_flight.world_model.Jobs.{put_bytes_of}
 use Rattle.world_parts.specs.k_journal.declared.outcomes.Commit.{Commit}
+use Rattle.world_parts.specs.world_view_laws.Jobs.{LosesFinish}
+use Rattle.world_parts.specs.declared.parts.Parts.{Parts}
+use Rattle.world_parts.specs.Seen.{IsKept, seen}
 use Rattle.world_parts.proofs.Adding.{few_acts}
-use Rattle.world_rounds.proofs.Finishes.{callers, finished_kept, finished_so, may_add, may_finish, room_for_claim, taken_is}
+use Rattle.world_rounds.proofs.Finishes.{callers, finished_kept, finished_so, may_finish, may_return, room_for_claim, taken_is}
 use Rattle.world_rounds.proofs.Fronts.{cut_kept, cut_so, ends_within, front_left, front_same, may_write}
 use Rattle.world_rounds.proofs.job_ends.ends.finish_on.Goals as goal
 
@@ -33,64 +38,54 @@ write_front-requires-clause-ends c = ends_within c.args.p.now c.requires.kept c.
 
 -- ---- the power went
 
-pub overflow_add-p : goal.overflow_add-p
-overflow_add-p c = omega (arith, few_acts c.args.p.now c.requires.kept)
+pub cut_off-requires : goal.cut_off-requires
+cut_off-requires c = few_acts c.args.p.now c.requires.kept
 
 pub returns-in-PowerLost-clause-kept : goal.returns-in-PowerLost-clause-kept
 returns-in-PowerLost-clause-kept c =
     let weak : c.args.p.now.mode ≢ Mode.Strict = (λ strict. (let never : Commit.PowerLost ≡ Commit.Done = (c.in-PowerLost.ensures.none strict).0 in cc)) in
-    cut_kept c.args.p.now c.requires.kept c.requires.awake c.requires.out c.args.job c.requires.job.0 c.requires.job.1 c.args.slot c.call_of-call.result.now (c.call_of-call.ensures c.requires.job.0 (subst (λ (ps : List JobOut). In c.requires.job.0 ps) (sym c.deref.ensures.value) c.requires.job.1.there) (sym (c.who-who.ensures ∙ c.requires.job.1.who))) c.draft.result.now c.draft.ensures.draft c.finish_write.new.k c.finish_write.new.tables c.finish_write.new.files c.finish_write.ensures.same c.finish_write.ensures.lands c.write_front.new.k
-    weak (c.in-PowerLost.ensures.answer weak) c.finish_write.new.claims c.finish_write.ensures.claims c.finish_write.ensures.capacity
+    subst (λ (x : Parts). IsKept x) (sym c.cut_off.ensures)
+    (cut_kept c.args.p.now c.requires.kept c.requires.awake c.requires.out c.args.job c.requires.job.0 c.requires.job.1 c.args.slot c.call_of-call.result.now (c.call_of-call.ensures c.requires.job.0 (subst (λ (ps : List JobOut). In c.requires.job.0 ps) (sym c.deref.ensures.value) c.requires.job.1.there) (sym (c.who-who.ensures ∙ c.requires.job.1.who))) c.draft.result.now c.draft.ensures.draft c.finish_write.new.k c.finish_write.new.tables c.finish_write.new.files c.finish_write.ensures.same c.finish_write.ensures.lands c.write_front.new.k
+    weak (c.in-PowerLost.ensures.answer weak) c.finish_write.new.claims c.finish_write.ensures.claims c.finish_write.ensures.capacity)
 
 pub returns-in-PowerLost-clause-finished : goal.returns-in-PowerLost-clause-finished
 returns-in-PowerLost-clause-finished c q is =
     let weak : c.args.p.now.mode ≢ Mode.Strict = (λ strict. (let never : Commit.PowerLost ≡ Commit.Done = (c.in-PowerLost.ensures.none strict).0 in cc)) in
-    cut_so c.args.p.now c.requires.kept c.requires.awake c.requires.out c.args.job q is c.args.slot c.call_of-call.result.now (c.call_of-call.ensures q (subst (λ (ps : List JobOut). In q ps) (sym c.deref.ensures.value) is.there) (sym (c.who-who.ensures ∙ is.who))) c.draft.result.now c.draft.ensures.draft c.finish_write.new.k c.finish_write.new.tables c.finish_write.new.files c.finish_write.ensures.same c.finish_write.ensures.lands c.write_front.new.k
-    weak (c.in-PowerLost.ensures.answer weak) c.finish_write.new.claims c.finish_write.ensures.claims c.finish_write.ensures.capacity c.write_front.new.power c.in-PowerLost.ensures.paid
+    subst (λ (x : Parts). LosesFinish c.args.slot q (seen c.args.p.now) (seen x) c.write_front.new.power) (sym c.cut_off.ensures)
+    (cut_so c.args.p.now c.requires.kept c.requires.awake c.requires.out c.args.job q is c.args.slot c.call_of-call.result.now (c.call_of-call.ensures q (subst (λ (ps : List JobOut). In q ps) (sym c.deref.ensures.value) is.there) (sym (c.who-who.ensures ∙ is.who))) c.draft.result.now c.draft.ensures.draft c.finish_write.new.k c.finish_write.new.tables c.finish_write.new.files c.finish_write.ensures.same c.finish_write.ensures.lands c.write_front.new.k
+    weak (c.in-PowerLost.ensures.answer weak) c.finish_write.new.claims c.finish_write.ensures.claims c.finish_write.ensures.capacity c.write_front.new.power c.in-PowerLost.ensures.paid)
 
 -- ---- it is done
 
-pub take_job-requires : goal.take_job-requires
-take_job-requires c = callers c.args.p.now c.requires.kept c.requires.awake c.requires.out c.args.job c.requires.job.0 c.requires.job.1
+pub return_job-requires-clause-callers : goal.return_job-requires-clause-callers
+return_job-requires-clause-callers c = callers c.args.p.now c.requires.kept c.requires.awake c.requires.out c.args.job c.requires.job.0 c.requires.job.1
 
-pub unreachable-requires : goal.unreachable-requires
-unreachable-requires c = c.in_default.ensures.none c.requires.job.0 c.requires.job.1.there (sym (c.who-who.ensures ∙ c.requires.job.1.who))
+pub return_job-requires-clause-out : goal.return_job-requires-clause-out
+return_job-requires-clause-out c = (c.requires.job.0, c.requires.job.1.there, sym (c.who-who.ensures ∙ c.requires.job.1.who))
 
-pub add-requires : goal.add-requires
-add-requires c =
-    let taken = c.in-Some.ensures.some in
-    let view : JobOut = record { who = c.pending.inside.who; call = c.pending.inside.call; draft = c.pending.inside.draft; blocks = c.pending.inside.blocks.items } in
-    let same : view ≡ c.requires.job.0 = c.pending.view_is ∙ taken_is c.args.p.now c.requires.kept c.requires.awake c.requires.out c.args.job c.requires.job.0 c.requires.job.1 c.in-Some.pending taken.0 (taken.1 ∙ c.who-who.ensures) in
-    let left = c.in-Some.ensures.left ∙ ap (λ (w : Who). without w c.args.p.now.pending.items) c.who-who.ensures in
-    let replied = c.answer-outcome.ensures ∙ ap (λ (n : ℕ). answer (Reply.Count n)) c.put_count.ensures in
+pub return_job-requires-clause-may : goal.return_job-requires-clause-may
+return_job-requires-clause-may c =
+    let may = may_return c.args.p.now c.requires.kept c.requires.awake c.requires.out c.args.job c.requires.job.0 c.requires.job.1 c.who-who.result c.who-who.ensures in
+    record { caller = may.caller; few = may.few; room = may.room; one_act = may.one_act }
+
+pub returns-in-Done-clause-kept : goal.returns-in-Done-clause-kept
+returns-in-Done-clause-kept c =
+    let back = c.return_job.ensures in
     let none = λ (strict : c.args.p.now.mode ≡ Mode.Strict). (c.in-Done.ensures.none strict).1 in
-    may_add c.args.p.now c.requires.kept c.requires.awake c.requires.out c.args.job c.requires.job.0 c.requires.job.1 c.finished_writes_end_with_their_files.ensures.finished c.args.slot view same c.answer-outcome.result replied c.write_front.new.k c.finish_write.new.tables c.finish_write.new.files c.finish_write.new.claims c.take_job.new.pending left
+    finished_kept c.args.p.now c.requires.kept c.requires.awake c.requires.out c.args.job c.requires.job.0 c.requires.job.1 c.finished_writes_end_with_their_files.ensures.finished c.args.slot back.taken (taken_is c.args.p.now c.requires.kept c.requires.awake c.requires.out c.args.job c.requires.job.0 c.requires.job.1 back.taken back.was_out (back.own ∙ c.who-who.ensures))
+    (answer (Reply.Count (length (put_bytes_of back.taken.call)))) refl c.write_front.new.k c.finish_write.new.tables c.finish_write.new.files c.finish_write.new.claims back.pending
+    (back.left ∙ ap (λ (w : Who). without w c.args.p.now.pending.items) c.who-who.ensures)
     (front_same c.args.p.now c.requires.kept c.requires.awake c.requires.out c.args.job c.requires.job.0 c.requires.job.1 c.args.slot c.call_of-call.result.now (c.call_of-call.ensures c.requires.job.0 (subst (λ (ps : List JobOut). In c.requires.job.0 ps) (sym c.deref.ensures.value) c.requires.job.1.there) (sym (c.who-who.ensures ∙ c.requires.job.1.who))) c.draft.result.now c.draft.ensures.draft c.finish_write.new.k c.finish_write.new.tables c.finish_write.new.files c.finish_write.ensures.same c.finish_write.ensures.lands c.write_front.new.k none c.in-Done.ensures.answer)
     c.finish_write.ensures.claims c.finish_write.ensures.capacity
-    (front_left c.args.p.now c.requires.kept c.requires.awake c.requires.out c.args.job c.requires.job.0 c.requires.job.1 c.args.slot c.call_of-call.result.now (c.call_of-call.ensures c.requires.job.0 (subst (λ (ps : List JobOut). In c.requires.job.0 ps) (sym c.deref.ensures.value) c.requires.job.1.there) (sym (c.who-who.ensures ∙ c.requires.job.1.who))) c.draft.result.now c.draft.ensures.draft c.finish_write.new.k c.finish_write.new.tables c.finish_write.new.files c.finish_write.ensures.same c.finish_write.ensures.lands c.write_front.new.k none c.in-Done.ensures.answer)
+    (front_left c.args.p.now c.requires.kept c.requires.awake c.requires.out c.args.job c.requires.job.0 c.requires.job.1 c.args.slot c.call_of-call.result.now (c.call_of-call.ensures c.requires.job.0 (subst (λ (ps : List JobOut). In c.requires.job.0 ps) (sym c.deref.ensures.value) c.requires.job.1.there) (sym (c.who-who.ensures ∙ c.requires.job.1.who))) c.draft.result.now c.draft.ensures.draft c.finish_write.new.k c.finish_write.new.tables c.finish_write.new.files c.finish_write.ensures.same c.finish_write.ensures.lands c.write_front.new.k none c.in-Done.ensures.answer) c.return_job.new.p back.added
 
-pub returns-in-Some-clause-kept : goal.returns-in-Some-clause-kept
-returns-in-Some-clause-kept c =
-    let taken = c.in-Some.ensures.some in
-    let view : JobOut = record { who = c.pending.inside.who; call = c.pending.inside.call; draft = c.pending.inside.draft; blocks = c.pending.inside.blocks.items } in
-    let same : view ≡ c.requires.job.0 = c.pending.view_is ∙ taken_is c.args.p.now c.requires.kept c.requires.awake c.requires.out c.args.job c.requires.job.0 c.requires.job.1 c.in-Some.pending taken.0 (taken.1 ∙ c.who-who.ensures) in
-    let left = c.in-Some.ensures.left ∙ ap (λ (w : Who). without w c.args.p.now.pending.items) c.who-who.ensures in
-    let replied = c.answer-outcome.ensures ∙ ap (λ (n : ℕ). answer (Reply.Count n)) c.put_count.ensures in
+pub returns-in-Done-clause-finished : goal.returns-in-Done-clause-finished
+returns-in-Done-clause-finished c q is =
+    let back = c.return_job.ensures in
     let none = λ (strict : c.args.p.now.mode ≡ Mode.Strict). (c.in-Done.ensures.none strict).1 in
-    finished_kept c.args.p.now c.requires.kept c.requires.awake c.requires.out c.args.job c.requires.job.0 c.requires.job.1 c.finished_writes_end_with_their_files.ensures.finished c.args.slot view same c.answer-outcome.result replied c.write_front.new.k c.finish_write.new.tables c.finish_write.new.files c.finish_write.new.claims c.take_job.new.pending left
-    (front_same c.args.p.now c.requires.kept c.requires.awake c.requires.out c.args.job c.requires.job.0 c.requires.job.1 c.args.slot c.call_of-call.result.now (c.call_of-call.ensures c.requires.job.0 (subst (λ (ps : List JobOut). In c.requires.job.0 ps) (sym c.deref.ensures.value) c.requires.job.1.there) (sym (c.who-who.ensures ∙ c.requires.job.1.who))) c.draft.result.now c.draft.ensures.draft c.finish_write.new.k c.finish_write.new.tables c.finish_write.new.files c.finish_write.ensures.same c.finish_write.ensures.lands c.write_front.new.k none c.in-Done.ensures.answer)
-    c.finish_write.ensures.claims c.finish_write.ensures.capacity
-    (front_left c.args.p.now c.requires.kept c.requires.awake c.requires.out c.args.job c.requires.job.0 c.requires.job.1 c.args.slot c.call_of-call.result.now (c.call_of-call.ensures c.requires.job.0 (subst (λ (ps : List JobOut). In c.requires.job.0 ps) (sym c.deref.ensures.value) c.requires.job.1.there) (sym (c.who-who.ensures ∙ c.requires.job.1.who))) c.draft.result.now c.draft.ensures.draft c.finish_write.new.k c.finish_write.new.tables c.finish_write.new.files c.finish_write.ensures.same c.finish_write.ensures.lands c.write_front.new.k none c.in-Done.ensures.answer) c.add.new.p c.add.ensures
-
-pub returns-in-Some-clause-finished : goal.returns-in-Some-clause-finished
-returns-in-Some-clause-finished c q is =
-    let taken = c.in-Some.ensures.some in
-    let view : JobOut = record { who = c.pending.inside.who; call = c.pending.inside.call; draft = c.pending.inside.draft; blocks = c.pending.inside.blocks.items } in
-    let same : view ≡ q = c.pending.view_is ∙ taken_is c.args.p.now c.requires.kept c.requires.awake c.requires.out c.args.job q is c.in-Some.pending taken.0 (taken.1 ∙ c.who-who.ensures) in
-    let left = c.in-Some.ensures.left ∙ ap (λ (w : Who). without w c.args.p.now.pending.items) c.who-who.ensures in
-    let replied = c.answer-outcome.ensures ∙ ap (λ (n : ℕ). answer (Reply.Count n)) c.put_count.ensures in
-    let none = λ (strict : c.args.p.now.mode ≡ Mode.Strict). (c.in-Done.ensures.none strict).1 in
-    finished_so c.args.p.now c.requires.kept c.requires.awake c.requires.out c.args.job q is c.finished_writes_end_with_their_files.ensures.finished c.args.slot view same c.answer-outcome.result replied c.write_front.new.k c.finish_write.new.tables c.finish_write.new.files c.finish_write.new.claims c.take_job.new.pending left
+    finished_so c.args.p.now c.requires.kept c.requires.awake c.requires.out c.args.job q is c.finished_writes_end_with_their_files.ensures.finished c.args.slot back.taken (taken_is c.args.p.now c.requires.kept c.requires.awake c.requires.out c.args.job q is back.taken back.was_out (back.own ∙ c.who-who.ensures))
+    (answer (Reply.Count (length (put_bytes_of back.taken.call)))) refl c.write_front.new.k c.finish_write.new.tables c.finish_write.new.files c.finish_write.new.claims back.pending
+    (back.left ∙ ap (λ (w : Who). without w c.args.p.now.pending.items) c.who-who.ensures)
     (front_same c.args.p.now c.requires.kept c.requires.awake c.requires.out c.args.job q is c.args.slot c.call_of-call.result.now (c.call_of-call.ensures q (subst (λ (ps : List JobOut). In q ps) (sym c.deref.ensures.value) is.there) (sym (c.who-who.ensures ∙ is.who))) c.draft.result.now c.draft.ensures.draft c.finish_write.new.k c.finish_write.new.tables c.finish_write.new.files c.finish_write.ensures.same c.finish_write.ensures.lands c.write_front.new.k none c.in-Done.ensures.answer)
     c.finish_write.ensures.claims c.finish_write.ensures.capacity
-    (front_left c.args.p.now c.requires.kept c.requires.awake c.requires.out c.args.job q is c.args.slot c.call_of-call.result.now (c.call_of-call.ensures q (subst (λ (ps : List JobOut). In q ps) (sym c.deref.ensures.value) is.there) (sym (c.who-who.ensures ∙ is.who))) c.draft.result.now c.draft.ensures.draft c.finish_write.new.k c.finish_write.new.tables c.finish_write.new.files c.finish_write.ensures.same c.finish_write.ensures.lands c.write_front.new.k none c.in-Done.ensures.answer) c.add.new.p c.add.ensures c.finish_write.ensures.lays c.write_front.new.power c.in-Done.ensures.paid
+    (front_left c.args.p.now c.requires.kept c.requires.awake c.requires.out c.args.job q is c.args.slot c.call_of-call.result.now (c.call_of-call.ensures q (subst (λ (ps : List JobOut). In q ps) (sym c.deref.ensures.value) is.there) (sym (c.who-who.ensures ∙ is.who))) c.draft.result.now c.draft.ensures.draft c.finish_write.new.k c.finish_write.new.tables c.finish_write.new.files c.finish_write.ensures.same c.finish_write.ensures.lands c.write_front.new.k none c.in-Done.ensures.answer) c.return_job.new.p back.added c.finish_write.ensures.lays c.write_front.new.power c.in-Done.ensures.paid

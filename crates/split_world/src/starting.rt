@@ -6,39 +6,65 @@ ghost use Rattle.posix_types.specs.declared.call.Mode.{Mode};
 ghost use Rattle.round_laws.specs.StartsLaws.{BeginsOver, WasMounted};
 ghost use Rattle.world_begins.specs.world_parts.world_view_laws.Starts.{AreInLimits};
 ghost use Rattle.split_world.specs.Mounts.{IsWorldAnswer};
+ghost use Rattle.split_world.specs.Taken.{IsTaken};
 ghost use Rattle.world_begins.specs.world_parts.Seen.{seen, IsKept};
 
 use crate::laws;
 use crate::world::World;
 use pm_lines::{Pm, Power};
-use posix_types::{Mode, Scripts};
+use posix_types::{Call, Mode, Scripts, Tree, Who};
 use round_laws::{KSplit, MountFault, OpenFiles, Staging, mount, no_calls, table_of};
 use std::alloc::Global;
 use world_begins::{NoMemory, Parts};
+use world_rounds::FileTable;
 
-// The parts of the World of a K-Split that was mounted: the tree of the device is the start of the history.
-fn parts_over(alloc: Global, k: KSplit, mode: Mode, scripts: Scripts) -> Result<Parts, NoMemory>
-    requires mounted { WasMounted k }
-    requires mode { mode ≢ Mode.Posix }
-    requires limits { AreInLimits scripts }
-    ensures { IfOk result (λ p. IsKept p × BeginsOver k mode scripts (seen p)) }
+// What the World of a K-Split that was mounted takes memory for.
+#[derive(Drop)]
+struct Taken {
+    tree: Tree,
+    files: OpenFiles,
+    data: FileTable,
+    spare: Vec<(Who, Call)>,
+}
+
+// The tree of the device, the table of its sizes, and room.
+fn taken_for(alloc: Global, k: &KSplit) -> Result<Taken, NoMemory>
+    requires { WasMounted k.now }
+    ensures { IfOk result (IsTaken k.now) }
 {
     laws::a_world_begins();
+    let spare = Vec::with_capacity(alloc, 1)?;
+    let files = OpenFiles::new(alloc)?;
+    let data = table_of(alloc, k)?;
     let tree = k.tree(alloc)?;
+    Ok(Taken {
+        tree,
+        files,
+        data,
+        spare,
+    })
+}
+
+// The parts of the World of a K-Split that was mounted: the tree of the device is the start of the history.
+fn parts_with(alloc: Global, k: KSplit, taken: Taken, mode: Mode, scripts: Scripts) -> Parts
+    requires mounted { WasMounted k }
+    requires taken { IsTaken k taken }
+    requires mode { mode ≢ Mode.Posix }
+    requires limits { AreInLimits scripts }
+    ensures { IsKept result × BeginsOver k mode scripts (seen result) }
+{
+    laws::a_world_begins();
     let geometry = *k.geometry();
     let base = k.log_base();
     let shape = geometry.shape();
-    let files = OpenFiles::new(alloc)?;
-    let data = table_of(alloc, &k)?;
-    let spare = Vec::with_capacity(alloc, 1)?;
-    Ok(Parts {
+    Parts {
         k,
-        files,
+        files: taken.files,
         staging: Staging::new(alloc),
-        data,
+        data: taken.data,
         geometry,
         base,
-        tree,
+        tree: taken.tree,
         shape,
         mode,
         scripts,
@@ -48,7 +74,7 @@ fn parts_over(alloc: Global, k: KSplit, mode: Mode, scripts: Scripts) -> Result<
         claims: Vec::new(alloc),
         pending: Vec::new(alloc),
         unfinished: None,
-        spare,
+        spare: taken.spare,
         over: None,
         given_up: 0,
         acts: 0,
@@ -57,7 +83,7 @@ fn parts_over(alloc: Global, k: KSplit, mode: Mode, scripts: Scripts) -> Result<
         first: Vec::new(alloc),
         lost: false,
         usable: true,
-    })
+    }
 }
 
 impl World {
@@ -68,8 +94,10 @@ impl World {
         requires limits { AreInLimits scripts }
         ensures { IfOk result (λ w. BeginsOver k mode scripts w) }
     {
-        let parts = parts_over(alloc, k, mode, scripts)?;
-        Ok(World { parts })
+        let taken = taken_for(alloc, &k)?;
+        Ok(World {
+            parts: parts_with(alloc, k, taken, mode, scripts),
+        })
     }
 
     /// Mounts a device, and begins a World on it: the tree that is found is the start of the history.

@@ -1,4 +1,4 @@
-use Rattle.std.proofs.Common.{◌≡◌, ◌≤◌, ◌∙◌, ap, length, subst}
+use Rattle.std.proofs.Common.{◌≤◌, ◌∙◌, ap, length, subst}
 use Rattle.round_laws.specs.posix_spec.Run.{IsLegal}
 use Rattle.round_laws.specs.posix_spec.Scripted.{Scripted}
 use Rattle.world_begins.specs.world_parts.world_view_laws.Views.{WorldView}

@@ -4,7 +4,6 @@ use Rattle.std.proofs.Common.{arith, ap, ◌∙◌, sym, subst, inl, inr}
 use Rattle.std.proofs.lemmas.Bool.{cases_eq}
 use Rattle.std.proofs.lemmas.Bool.Decides.{nat_tests}
 use Rattle.std.proofs.lemmas.List.{length-set}
-use Rattle.world_write_laws.specs.world_step_laws.pm_model.declared.Cell.{Cell}
 use Rattle.world_write_laws.specs.world_step_laws.pm_model.Words.{Words}
 use Rattle.world_write_laws.specs.world_step_laws.layout_model.Places.{data_blocks}
 use Rattle.world_write_laws.specs.world_step_laws.extent_model.declared.extent_words.Extent.{Extent}
@@ -27,7 +26,7 @@ use Rattle.world_write_laws.specs.world_step_laws.k_split_model.Spaces.{volume_s
 use Rattle.world_write_laws.specs.world_step_laws.k_split_model.View.{View}
 use Rattle.k_split.specs.k_plans.Whole.{IsWhole}
 use Rattle.k_split.specs.declared.faults.KFault.{KFault}
-use Rattle.k_split.specs.Answers.{IsAnswer, IsCut, IsDone, IsOff}
+use Rattle.k_split.specs.Answers.{IsAnswer, IsCut, IsDone}
 use Rattle.k_split.specs.MapChanges.{IsMapCut, IsMapDone, IsSizeAnswer, IsSizedWith}
 use Rattle.world_write_laws.specs.world_step_laws.posix_types.declared.call.Call.{Call}
 use Rattle.world_write_laws.specs.world_step_laws.posix_types.declared.call.Who.{Who}
@@ -44,17 +43,18 @@ use Rattle.world_write_laws.specs.world_step_laws.crash_spec.Busy.{waits_for}
 use Rattle.world_write_laws.specs.world_step_laws.list_laws.Filters.{filter-agree}
 use Rattle.world_write_laws.specs.world_step_laws.world_model.Jobs.{Job, live_claims}
 use Rattle.world_write_laws.specs.world_step_laws.world_model.Stands.{entries_of, IsSane, IsUsed, number}
-use Rattle.world_write_laws.specs.world_step_laws.Mirrors.{Mirrors, node_at_path-same}
+use Rattle.world_write_laws.specs.world_step_laws.Mirrors.{node_at_path-same}
 use Rattle.world_write_laws.specs.world_step_laws.Rows.{HaveSameRows-Mirrors}
 use Rattle.world_write_laws.specs.world_step_laws.Steps.{LetsJobsBe}
 use Rattle.world_write_laws.specs.world_step_laws.Worlds.{IsWorld, world_mirror}
 use Rattle.world_write_laws.specs.Resizes.{HasAlone, Resizes}
 use Rattle.world_write_laws.specs.ResizeSteps.{cut}
-use Rattle.world_image_laws.specs.Images.{HasRoom, StandsFor}
 use Rattle.world_image_laws.specs.ImagesRooms.{room_kept}
 use Rattle.world_image_laws.specs.Settings.{keeps_setting}
 use Rattle.k_split_laws.specs.Going.{IsStep}
-use Rattle.k_split_laws.specs.Laws.{CutsAsAnswer, cut_to_nothing, StepsCut}
+use Rattle.k_split_laws.specs.Laws.{CutsAsAnswer, cut_to_nothing}
+use Rattle.k_split_laws.specs.SeenLaws.{StepsCutSeen}
+use Rattle.k_split_laws.specs.Seen.{SeenFor}
 
 -- ---- what K-Split makes of the volume
 
@@ -231,10 +231,10 @@ module _ (v : Volume) (ino : ℕ) (below : ino < length v.inodes) (whole : IsWho
       ap (λ b. if b then (if too_long (space s).longest p then None else node_at_path (space s) p) else None) cuts
       ∙ (ap (λ b. if b then None else node_at_path (space s) p) short ∙ at)
 
-  step : (d : List Cell) (claims : List (ℕ × Draft)) (jobs : List Job) (numbers : List ℕ) (s : State) (count : ℕ) (who : Who) (h : Handle) (p : List (List ℕ)) (flags : Flags) → StandsFor v d claims jobs numbers s count
+  step : (claims : List (ℕ × Draft)) (jobs : List Job) (numbers : List ℕ) (s : State) (count : ℕ) (who : Who) (h : Handle) (p : List (List ℕ)) (flags : Flags) → SeenFor v claims jobs numbers s count
       → LetsJobsBe s (who, Call.Open h p flags) numbers jobs → first (open_rows (volume_space v) (is_full s.tables) (is_busy alone s p) p flags) ≡ None → flags.truncate ≡ true → node_at_path (volume_space v) p ≡ Some ino → (inode v ino).kind ≡ File
       → entries_of ino (live_claims v claims) ≡ [] → IsStep (Some ino) v w claims jobs numbers numbers s (after_call s (who, Call.Open h p flags)) count count
-  step d claims jobs numbers s count who h p flags device lets none cuts there file published = record {
+  step claims jobs numbers s count who h p flags seen lets none cuts there file published = record {
     geometry = refl;
     base = refl;
     staging = λ i is_staging. extents-set_other ino line [] [] v i (λ one. (let never : Staging ≡ File = sym is_staging ∙ (ap (λ n. (inode v n).kind) one ∙ file) in cc));
@@ -246,7 +246,7 @@ module _ (v : Volume) (ino : ℕ) (below : ino < length v.inodes) (whole : IsWho
       applied = λ i. (let same = same_applied i (cases_eq i ino) in omega (arith, same));
       frees = frees;
     };
-    room = room_kept v w claims jobs s (after_call s (who, Call.Open h p flags)) refl (keeps_setting s (who, Call.Open h p flags)).shape frees (λ e is live. sym (same_live e) ∙ live) device.room;
+    room = room_kept v w claims jobs s (after_call s (who, Call.Open h p flags)) refl (keeps_setting s (who, Call.Open h p flags)).shape frees (λ e is live. sym (same_live e) ∙ live) seen.room;
     takes = λ f world. (
         let rows = HaveSameRows-Mirrors (IsUsed v) numbers (volume_space v) (space s) (world_mirror v claims jobs f numbers s count world) in
         let none_there = ap first (sym (rows.open_ (is_full s.tables) (is_busy alone s p) p flags)) ∙ none in
@@ -254,7 +254,7 @@ module _ (v : Volume) (ino : ℕ) (below : ino < length v.inodes) (whole : IsWho
         (waits claims jobs f numbers s count who h p flags world cuts there none_there) (resizes world.valid.stands.sane file) published (alone_there f));
   }
 
-pub steps_cut : StepsCut
-steps_cut v d claims jobs numbers s count who h p flags ino w device lets none cuts there file published below whole after is =
+pub steps_cut_seen : StepsCutSeen
+steps_cut_seen v claims jobs numbers s count who h p flags ino w seen lets none cuts there file published below whole after is =
     subst (λ x. IsStep (Some ino) v x claims jobs numbers numbers s (after_call s (who, Call.Open h p flags)) count count) (sym is)
-    (step v ino below whole (subst IsWhole is after) d claims jobs numbers s count who h p flags device lets none cuts there file published)
+    (step v ino below whole (subst IsWhole is after) claims jobs numbers s count who h p flags seen lets none cuts there file published)

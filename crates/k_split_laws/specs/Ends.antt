@@ -3,10 +3,7 @@ use Rattle.std.specs.Prelude.{◌≡◌, ◌≢◌, ℕ, Bool, false, true, not,
 use Rattle.std.specs.Option.{option_map_or}
 use Rattle.std.proofs.Common.{ap, ◌∙◌, sym, subst}
 use Rattle.std.proofs.lemmas.Option.{same_Some}
-use Rattle.world_write_laws.specs.world_step_laws.pm_model.declared.Cell.{Cell}
-use Rattle.world_write_laws.specs.world_step_laws.pm_model.Images.{words_of}
 use Rattle.world_write_laws.specs.world_step_laws.pm_model.Words.{Words}
-use Rattle.world_write_laws.specs.world_step_laws.layout_model.Journal.{journaled}
 use Rattle.world_write_laws.specs.world_step_laws.layout_model.declared.lines.Draft.{Draft}
 use Rattle.world_write_laws.specs.world_step_laws.image_model.Live.{is_directory}
 use Rattle.world_write_laws.specs.world_step_laws.image_model.Volume.{inode, Volume}
@@ -38,12 +35,12 @@ use Rattle.world_write_laws.specs.world_step_laws.Rows.{HaveSameRows, HaveSameRo
 use Rattle.world_write_laws.specs.world_step_laws.Nameless.{IsNameless, nameless-count, nameless-moved_over}
 use Rattle.world_write_laws.specs.world_step_laws.RemoveCalls.{one_number, row_of}
 use Rattle.world_write_laws.specs.world_step_laws.Worlds.{IsFound, IsWorld, node_there, world_mirror, world_volume}
-use Rattle.world_image_laws.specs.Images.{StandsFor}
 use Rattle.world_image_laws.specs.Unseen.{tree-swept}
 use Rattle.k_split_laws.specs.Going.{moved_so_far}
-use Rattle.k_split_laws.specs.Laws.{DoneByRow, RefusedByRow, RenamesOverFile, TreeOfRename, TreeOfUnlink}
+use Rattle.k_split_laws.specs.SeenLaws.{DoneByRowSeen, RefusedByRowSeen, RenamesOverFileSeen, TreeOfRenameSeen, TreeOfUnlinkSeen}
+use Rattle.k_split_laws.specs.Seen.{SeenFor}
 use Rattle.k_split_laws.specs.Moves.{can_replace, may_go, target_at}
-use Rattle.k_split_laws.specs.Steps.{found_at, found_used, plain_file, state_unlink, valid_now}
+use Rattle.k_split_laws.specs.Steps.{found_at, found_used, plain_file, state_unlink_seen}
 
 -- a node that is no directory is not the root
 pub not_root_number : (v : Volume) (claims : List (ℕ × Draft)) (jobs : List Job) (f : Words) (numbers : List ℕ) (s : State) (count c : ℕ) → IsWorld v claims jobs f numbers s count → IsUsed v c → is_directory (inode v c).kind ≡ false → number numbers c ≢ 0
@@ -55,17 +52,17 @@ not_root_number v claims jobs f numbers s count c world used plain same =
 
 -- ---- unlink
 
-pub tree_of_unlink : TreeOfUnlink
-tree_of_unlink v d claims jobs numbers s count who p w ino device none is =
-    sym (ap tree (state_unlink v d claims jobs numbers s count who p w ino device none is) ∙ tree-swept (unnamed_state s p) (number numbers ino) other) where
-      world : IsWorld v claims jobs (journaled (words_of d)) numbers s count
-      world = valid_now v d claims jobs numbers s count device
+pub tree_of_unlink_seen : TreeOfUnlinkSeen
+tree_of_unlink_seen v claims jobs numbers s count who p w ino seen none is =
+    sym (ap tree (state_unlink_seen v claims jobs numbers s count who p w ino seen none is) ∙ tree-swept (unnamed_state s p) (number numbers ino) other) where
+      world : IsWorld v claims jobs seen.words numbers s count
+      world = seen.world
 
       used : IsUsed v is.entry.child
-      used = found_used v claims jobs (journaled (words_of d)) numbers s count p is.entry.parent is.entry.line is.entry.child world (found_at v p is.entry is.is_file.is_entry)
+      used = found_used v claims jobs seen.words numbers s count p is.entry.parent is.entry.line is.entry.child world (found_at v p is.entry is.is_file.is_entry)
 
       other : number numbers ino ≢ 0
-      other same = not_root_number v claims jobs (journaled (words_of d)) numbers s count is.entry.child world used is.is_file.is_file (ap (number numbers) (sym is.ino_is) ∙ same)
+      other same = not_root_number v claims jobs seen.words numbers s count is.entry.child world used is.is_file.is_file (ap (number numbers) (sym is.ino_is) ∙ same)
 
 -- ---- rename
 
@@ -102,8 +99,8 @@ is_over v p q w ino is = by is.moving.target refl is.lost_is is.is_renamed where
   by None there lost w_is = cc
   by (Some t) there lost w_is = some t there (is_directory_in v.inodes t.child) refl lost w_is
 
-pub renames_over_file : RenamesOverFile
-renames_over_file v d claims jobs numbers s count who p q w ino device none is = (
+pub renames_over_file_seen : RenamesOverFileSeen
+renames_over_file_seen v claims jobs numbers s count who p q w ino seen none is = (
   subst (λ n. MayDrop n w) (sym o.ino_is) (subst (MayDrop o.target.child) (sym o.w_is) may),
   subst (λ n. after_call s (who, Call.Rename p q) ≡ swept alone (moved_so_far (Some n) s who p q) (number numbers n)) (sym o.ino_is) ends,
 ) where
@@ -113,8 +110,8 @@ renames_over_file v d claims jobs numbers s count who p q w ino device none is =
   o : IsOver v p q w ino is.moving
   o = is_over v p q w ino is
 
-  world : IsWorld v claims jobs (journaled (words_of d)) numbers s count
-  world = valid_now v d claims jobs numbers s count device
+  world : IsWorld v claims jobs seen.words numbers s count
+  world = seen.world
 
   found : IsFound v p moving.entry.parent moving.entry.line moving.entry.child
   found = found_at v p moving.entry is.is_moving.is_entry
@@ -126,7 +123,7 @@ renames_over_file v d claims jobs numbers s count who p q w ino device none is =
   can = can_replace (volume_space v) p q moving.entry.parent moving.entry.child moving.parent o.target.child (may_go v p q moving none is.is_moving) at.at
 
   used : IsUsed v o.target.child
-  used = found_used v claims jobs (journaled (words_of d)) numbers s count q moving.parent o.target.line o.target.child world at
+  used = found_used v claims jobs seen.words numbers s count q moving.parent o.target.line o.target.child world at
 
   r : IsRowFound v.names moving.entry.parent (last_name p) moving.entry.line moving.entry.child
   r = row_of v p moving.entry.parent moving.entry.line moving.entry.child found
@@ -147,7 +144,7 @@ renames_over_file v d claims jobs numbers s count who p q w ino device none is =
   }
 
   mirror : Mirrors (IsUsed v) numbers (volume_space v) (space s)
-  mirror = world_mirror v claims jobs (journaled (words_of d)) numbers s count world
+  mirror = world_mirror v claims jobs seen.words numbers s count world
 
   none_there : first (rename_rows (space s) p q) ≡ None
   none_there = ap first (sym ((HaveSameRows-Mirrors (IsUsed v) numbers (volume_space v) (space s) mirror).rename p q)) ∙ none
@@ -158,56 +155,56 @@ renames_over_file v d claims jobs numbers s count who p q w ino device none is =
       ∙ (stands_file s p q (number numbers o.target.child) (node_there v numbers s q moving.parent o.target.child mirror at.at) (mirror.directory o.target.child used ∙ o.plain)
       ∙ ap (λ x. swept alone x (number numbers o.target.child)) (only_entries s p q))
 
-pub tree_of_rename : TreeOfRename
-tree_of_rename v d claims jobs numbers s count who p q w None device none is = refl
-tree_of_rename v d claims jobs numbers s count who p q w (Some ino) device none is =
-    sym (ap tree (renames_over_file v d claims jobs numbers s count who p q w ino device none is).1 ∙ tree-swept (moved_so_far (Some ino) s who p q) (number numbers ino) other) where
+pub tree_of_rename_seen : TreeOfRenameSeen
+tree_of_rename_seen v claims jobs numbers s count who p q w None seen none is = refl
+tree_of_rename_seen v claims jobs numbers s count who p q w (Some ino) seen none is =
+    sym (ap tree (renames_over_file_seen v claims jobs numbers s count who p q w ino seen none is).1 ∙ tree-swept (moved_so_far (Some ino) s who p q) (number numbers ino) other) where
       o : IsOver v p q w ino is.moving
       o = is_over v p q w ino is
 
-      world : IsWorld v claims jobs (journaled (words_of d)) numbers s count
-      world = valid_now v d claims jobs numbers s count device
+      world : IsWorld v claims jobs seen.words numbers s count
+      world = seen.world
 
       at : IsFound v q is.moving.parent o.target.line o.target.child
       at = target_at v q is.moving.parent o.target (subst (IsTargetAt v.inodes v.names q is.moving.parent) o.there is.is_moving.is_target)
 
       used : IsUsed v o.target.child
-      used = found_used v claims jobs (journaled (words_of d)) numbers s count q is.moving.parent o.target.line o.target.child world at
+      used = found_used v claims jobs seen.words numbers s count q is.moving.parent o.target.line o.target.child world at
 
       other : number numbers ino ≢ 0
-      other same = not_root_number v claims jobs (journaled (words_of d)) numbers s count o.target.child world used o.plain (ap (number numbers) (sym o.ino_is) ∙ same)
+      other same = not_root_number v claims jobs seen.words numbers s count o.target.child world used o.plain (ap (number numbers) (sym o.ino_is) ∙ same)
 
 -- ---- replies
 
-same_rows : (v : Volume) (d : List Cell) (claims : List (ℕ × Draft)) (jobs : List Job) (numbers : List ℕ) (s : State) (count : ℕ) → StandsFor v d claims jobs numbers s count → HaveSameRows (volume_space v) (space s)
-same_rows v d claims jobs numbers s count device =
-    HaveSameRows-Mirrors (IsUsed v) numbers (volume_space v) (space s) (world_mirror v claims jobs (journaled (words_of d)) numbers s count (valid_now v d claims jobs numbers s count device))
+same_rows : (v : Volume) (claims : List (ℕ × Draft)) (jobs : List Job) (numbers : List ℕ) (s : State) (count : ℕ) → SeenFor v claims jobs numbers s count → HaveSameRows (volume_space v) (space s)
+same_rows v claims jobs numbers s count seen =
+    HaveSameRows-Mirrors (IsUsed v) numbers (volume_space v) (space s) (world_mirror v claims jobs seen.words numbers s count seen.world)
 
 refused : (s : State) (o : Option Outcome) (outcome : Outcome) (last : Stepped) → o ≡ Some outcome → stepped s o last ≡ record { state = s; outcome = outcome }
 refused s o outcome last is = ap (λ x. stepped s x last) is
 
-pub refused_by_row : RefusedByRow
-refused_by_row v d claims jobs numbers s count who (Call.Mkdir p) outcome device named is =
-    refused s (first (mkdir_rows (space s) p)) outcome (mkdir_done s p) (ap first (sym ((same_rows v d claims jobs numbers s count device).mkdir p)) ∙ is)
-refused_by_row v d claims jobs numbers s count who (Call.Rmdir p) outcome device named is =
-    refused s (first (rmdir_rows (space s) p)) outcome (rmdir_done s p) (ap first (sym ((same_rows v d claims jobs numbers s count device).rmdir p)) ∙ is)
-refused_by_row v d claims jobs numbers s count who (Call.Unlink p) outcome device named is =
-    refused s (first (unlink_rows (space s) p)) outcome (unlink_done alone s p) (ap first (sym ((same_rows v d claims jobs numbers s count device).unlink p)) ∙ is)
-refused_by_row v d claims jobs numbers s count who (Call.Rename p q) outcome device named is =
-    refused s (first (rename_rows (space s) p q)) outcome (rename_done alone s p q) (ap first (sym ((same_rows v d claims jobs numbers s count device).rename p q)) ∙ is)
-refused_by_row v d claims jobs numbers s count who call outcome device named is = absurd named
+pub refused_by_row_seen : RefusedByRowSeen
+refused_by_row_seen v claims jobs numbers s count who (Call.Mkdir p) outcome seen named is =
+    refused s (first (mkdir_rows (space s) p)) outcome (mkdir_done s p) (ap first (sym ((same_rows v claims jobs numbers s count seen).mkdir p)) ∙ is)
+refused_by_row_seen v claims jobs numbers s count who (Call.Rmdir p) outcome seen named is =
+    refused s (first (rmdir_rows (space s) p)) outcome (rmdir_done s p) (ap first (sym ((same_rows v claims jobs numbers s count seen).rmdir p)) ∙ is)
+refused_by_row_seen v claims jobs numbers s count who (Call.Unlink p) outcome seen named is =
+    refused s (first (unlink_rows (space s) p)) outcome (unlink_done alone s p) (ap first (sym ((same_rows v claims jobs numbers s count seen).unlink p)) ∙ is)
+refused_by_row_seen v claims jobs numbers s count who (Call.Rename p q) outcome seen named is =
+    refused s (first (rename_rows (space s) p q)) outcome (rename_done alone s p q) (ap first (sym ((same_rows v claims jobs numbers s count seen).rename p q)) ∙ is)
+refused_by_row_seen v claims jobs numbers s count who call outcome seen named is = absurd named
 
 acted : (s : State) (o : Option Outcome) (last : Stepped) → o ≡ None → last.outcome ≡ answer Reply.Ok → (stepped s o last).outcome ≡ answer Reply.Ok
 acted s o last is ok = ap (λ x. (stepped s x last).outcome) is ∙ ok
 
-pub done_by_row : DoneByRow
+pub done_by_row_seen : DoneByRowSeen
 unfolding mkdir_done rmdir_done unlink_done rename_done
-done_by_row v d claims jobs numbers s count who (Call.Mkdir p) device named is =
-    acted s (first (mkdir_rows (space s) p)) (mkdir_done s p) (ap first (sym ((same_rows v d claims jobs numbers s count device).mkdir p)) ∙ is) refl
-done_by_row v d claims jobs numbers s count who (Call.Rmdir p) device named is =
-    acted s (first (rmdir_rows (space s) p)) (rmdir_done s p) (ap first (sym ((same_rows v d claims jobs numbers s count device).rmdir p)) ∙ is) refl
-done_by_row v d claims jobs numbers s count who (Call.Unlink p) device named is =
-    acted s (first (unlink_rows (space s) p)) (unlink_done alone s p) (ap first (sym ((same_rows v d claims jobs numbers s count device).unlink p)) ∙ is) refl
-done_by_row v d claims jobs numbers s count who (Call.Rename p q) device named is =
-    acted s (first (rename_rows (space s) p q)) (rename_done alone s p q) (ap first (sym ((same_rows v d claims jobs numbers s count device).rename p q)) ∙ is) refl
-done_by_row v d claims jobs numbers s count who call device named is = absurd named
+done_by_row_seen v claims jobs numbers s count who (Call.Mkdir p) seen named is =
+    acted s (first (mkdir_rows (space s) p)) (mkdir_done s p) (ap first (sym ((same_rows v claims jobs numbers s count seen).mkdir p)) ∙ is) refl
+done_by_row_seen v claims jobs numbers s count who (Call.Rmdir p) seen named is =
+    acted s (first (rmdir_rows (space s) p)) (rmdir_done s p) (ap first (sym ((same_rows v claims jobs numbers s count seen).rmdir p)) ∙ is) refl
+done_by_row_seen v claims jobs numbers s count who (Call.Unlink p) seen named is =
+    acted s (first (unlink_rows (space s) p)) (unlink_done alone s p) (ap first (sym ((same_rows v claims jobs numbers s count seen).unlink p)) ∙ is) refl
+done_by_row_seen v claims jobs numbers s count who (Call.Rename p q) seen named is =
+    acted s (first (rename_rows (space s) p q)) (rename_done alone s p q) (ap first (sym ((same_rows v claims jobs numbers s count seen).rename p q)) ∙ is) refl
+done_by_row_seen v claims jobs numbers s count who call seen named is = absurd named

@@ -10,6 +10,9 @@ pub mod Spelled
 pub mod Steps
 pub mod Sweeps
 pub mod Left
+pub mod Seen
+pub mod SeenLaws
+pub mod DeviceSteps
 pub use Rattle.k_split.specs.block_io as block_io
 pub use Rattle.world_image_laws.specs.commute_laws
 pub use Rattle.world_write_laws.specs.world_step_laws.image_model

@@ -1,8 +1,6 @@
 -- What a rename makes of the volume and the state: a step of the World, and a second one where a file lost its name.
 use Rattle.std.specs.Prelude.{◌≡◌, ◌⊎◌, ℕ, Bool, false, true, List, [], Option, Some, None, Result, Ok, if◌then◌else◌, refl}
 use Rattle.std.proofs.Common.{ap, ◌∙◌, sym, subst, inl, inr}
-use Rattle.world_write_laws.specs.world_step_laws.pm_model.Images.{words_of}
-use Rattle.world_write_laws.specs.world_step_laws.layout_model.Journal.{journaled}
 use Rattle.world_write_laws.specs.world_step_laws.layout_model.Lines.{is_name}
 use Rattle.world_write_laws.specs.world_step_laws.image_model.Reading.{node_set}
 use Rattle.world_write_laws.specs.world_step_laws.image_model.Volume.{inode, Volume}
@@ -22,17 +20,16 @@ use Rattle.world_write_laws.specs.world_step_laws.posix_tables.Names.{child_of, 
 use Rattle.world_write_laws.specs.world_step_laws.posix_tables.Outcomes.{first}
 use Rattle.world_write_laws.specs.world_step_laws.posix_spec.Run.{after_call}
 use Rattle.world_write_laws.specs.world_step_laws.posix_spec.Step.{renamed as renamed_state}
-use Rattle.world_write_laws.specs.world_step_laws.world_model.Jobs.{Job}
 use Rattle.world_write_laws.specs.world_step_laws.world_model.TreeRules.{used_below}
 use Rattle.world_write_laws.specs.world_step_laws.RenameCalls.{IsWorld-rename_directory, IsWorld-rename_midway, IsWorld-renamed}
 use Rattle.world_write_laws.specs.world_step_laws.Worlds.{IsFound, IsWorld}
 use Rattle.world_image_laws.specs.ImagesRooms.{room_renamed, room_renamed_over_directory, room_renamed_over_file}
 use Rattle.world_image_laws.specs.Settings.{keeps_setting}
 use Rattle.k_split_laws.specs.Going.{gone_by, IsStep, moved_so_far}
-use Rattle.k_split_laws.specs.Laws.{StepsRename}
+use Rattle.k_split_laws.specs.SeenLaws.{StepsRenameSeen}
 use Rattle.k_split_laws.specs.Spelled.{last_fits}
 use Rattle.k_split_laws.specs.Lives.{leaves_gone, leaves_row, leaves_same}
-use Rattle.k_split_laws.specs.Steps.{found_at, found_used, used_plain, valid_now}
+use Rattle.k_split_laws.specs.Steps.{found_at, found_used, used_plain}
 
 -- ---- what was found
 
@@ -67,8 +64,8 @@ target_at v q parent t is = subst (λ n. IsFound v q n t.line t.child) is.0 (fou
 
 -- ---- the step
 
-pub steps_rename : StepsRename
-steps_rename v d claims jobs numbers s count who p q w lost device lets none spelled is = by is.moving.target refl is.lost_is is.is_renamed where
+pub steps_rename_seen : StepsRenameSeen
+steps_rename_seen v claims jobs numbers s count who p q w lost seen lets none spelled is = by is.moving.target refl is.lost_is is.is_renamed where
   moving : Moving
   moving = is.moving
 
@@ -81,8 +78,8 @@ steps_rename v d claims jobs numbers s count who p q w lost device lets none spe
   spells : is_name (last_name q) ≡ true
   spells = last_fits q spelled is.is_moving.directory.below is.is_moving.directory.short
 
-  world : IsWorld v claims jobs (journaled (words_of d)) numbers s count
-  world = valid_now v d claims jobs numbers s count device
+  world : IsWorld v claims jobs seen.words numbers s count
+  world = seen.world
 
   over : (t : Entry) → moving.target ≡ Some t → (b : Bool) → is_directory_in v.inodes t.child ≡ b → lost ≡ (if b then None else Some t.child)
       → w ≡ (if b then renamed_over_directory moving.entry.line (row_to q moving.parent moving.entry.child) t.line t.child v else renamed_over_file moving.entry.line (row_to q moving.parent moving.entry.child) t.line v)
@@ -90,7 +87,7 @@ steps_rename v d claims jobs numbers s count who p q w lost device lets none spe
   over t there true directory lost_is w_is =
       let at = target_at v q moving.parent t (subst (IsTargetAt v.inodes v.names q moving.parent) there is.is_moving.is_target) in
       let can = can_replace (volume_space v) p q moving.entry.parent moving.entry.child moving.parent t.child may at.at in
-      let used = found_used v claims jobs (journaled (words_of d)) numbers s count q moving.parent t.line t.child world at in
+      let used = found_used v claims jobs seen.words numbers s count q moving.parent t.line t.child world at in
       subst (λ o. IsStep (Some t.child) v w claims jobs numbers numbers s (moved_so_far o s who p q) count count) (sym lost_is)
       (subst (λ x. IsStep (Some t.child) v x claims jobs numbers numbers s (after_call s (who, Call.Rename p q)) count count) (sym w_is)
       (record {
@@ -99,7 +96,7 @@ steps_rename v d claims jobs numbers s count who p q w lost device lets none spe
         staging = λ i is_staging. refl;
         leaves = leaves_row (Some t.child) v (removed t.line t.child v) claims moving.entry.line (Some (row_to q moving.parent moving.entry.child))
             (leaves_row (Some t.child) v (node_set t.child (gone_node (inode v t.child)) v) claims t.line None (leaves_gone v claims count t.child (used_below v t.child used) world.aged (used_plain v t.child used)));
-        room = room_renamed_over_directory moving.entry.line (row_to q moving.parent moving.entry.child) t.line t.child v claims jobs s (after_call s (who, Call.Rename p q)) device.room
+        room = room_renamed_over_directory moving.entry.line (row_to q moving.parent moving.entry.child) t.line t.child v claims jobs s (after_call s (who, Call.Rename p q)) seen.room
             (used_below v t.child used) (keeps_setting s (who, Call.Rename p q)).shape;
         takes = λ f valid.
             IsWorld-rename_directory v claims jobs f numbers s count who p q moving.entry.parent moving.entry.line moving.entry.child moving.parent t.line t.child valid lets none found may at can (sym can.same ∙ directory) spells;
@@ -114,7 +111,7 @@ steps_rename v d claims jobs numbers s count who p q w lost device lets none spe
         base = refl;
         staging = λ i is_staging. refl;
         leaves = leaves_row None v (unnamed t.line v) claims moving.entry.line (Some (row_to q moving.parent moving.entry.child)) (leaves_row None v v claims t.line None (leaves_same v claims));
-        room = room_renamed_over_file moving.entry.line (row_to q moving.parent moving.entry.child) t.line v claims jobs s (record s { entries = (renamed_state s p q).entries }) device.room refl;
+        room = room_renamed_over_file moving.entry.line (row_to q moving.parent moving.entry.child) t.line v claims jobs s (record s { entries = (renamed_state s p q).entries }) seen.room refl;
         takes = λ f valid.
             IsWorld-rename_midway v claims jobs f numbers s count p q moving.entry.parent moving.entry.line moving.entry.child moving.parent t.line t.child valid found may at can (sym can.same ∙ directory) spells;
       }))
@@ -132,7 +129,7 @@ steps_rename v d claims jobs numbers s count who p q w lost device lets none spe
         base = refl;
         staging = λ i is_staging. refl;
         leaves = leaves_row None v v claims moving.entry.line (Some (row_to q moving.parent moving.entry.child)) (leaves_same v claims);
-        room = room_renamed moving.entry.line (row_to q moving.parent moving.entry.child) v claims jobs s (after_call s (who, Call.Rename p q)) device.room (keeps_setting s (who, Call.Rename p q)).shape;
+        room = room_renamed moving.entry.line (row_to q moving.parent moving.entry.child) v claims jobs s (after_call s (who, Call.Rename p q)) seen.room (keeps_setting s (who, Call.Rename p q)).shape;
         takes = λ f valid.
             IsWorld-renamed v claims jobs f numbers s count who p q moving.entry.parent moving.entry.line moving.entry.child moving.parent valid lets none found may new spells;
       }))

@@ -2,11 +2,7 @@
 use Rattle.std.specs.Prelude.{◌≡◌, ◌≢◌, ℕ, ◌+◌, false, true, List, length, slice_set, Some, None, refl}
 use Rattle.std.proofs.Common.{arith, ap, ◌∙◌, sym, subst}
 use Rattle.std.proofs.lemmas.List.{get_or-set_other, get_or-set_same, length-set}
-use Rattle.world_write_laws.specs.world_step_laws.pm_model.declared.Cell.{Cell}
-use Rattle.world_write_laws.specs.world_step_laws.pm_model.ImageLaws.{IsImage-words_of}
-use Rattle.world_write_laws.specs.world_step_laws.pm_model.Images.{words_of}
 use Rattle.world_write_laws.specs.world_step_laws.pm_model.Words.{Words}
-use Rattle.world_write_laws.specs.world_step_laws.layout_model.Journal.{journaled}
 use Rattle.world_write_laws.specs.world_step_laws.layout_model.declared.lines.Draft.{Draft}
 use Rattle.world_write_laws.specs.world_step_laws.layout_model.declared.lines.Kind.{Kind}
 use Rattle.world_write_laws.specs.world_step_laws.layout_model.declared.lines.Kind.TheVariants.{Directory, File, Free, Staging}
@@ -43,18 +39,13 @@ use Rattle.world_write_laws.specs.world_step_laws.NameTables.{row_used}
 use Rattle.world_write_laws.specs.world_step_laws.RemoveCalls.{IsWorld-rmdir, IsWorld-unlink_midway, one_number, row_of, swept-gone}
 use Rattle.world_write_laws.specs.world_step_laws.Steps.{shown_node}
 use Rattle.world_write_laws.specs.world_step_laws.Worlds.{IsFound, IsWorld, node_there, world_mirror}
-use Rattle.world_image_laws.specs.Images.{StandsFor}
 use Rattle.world_image_laws.specs.ImagesRooms.{room_dropped, room_made, room_removed, room_unnamed}
 use Rattle.world_image_laws.specs.Settings.{keeps_setting}
 use Rattle.k_split_laws.specs.Going.{IsStep}
 use Rattle.k_split_laws.specs.Gone.{GoOn-gone}
-use Rattle.k_split_laws.specs.Laws.{StateOfUnlink, StepsDropped, StepsMkdir, StepsOpened, StepsRmdir, StepsUnlinked, UnlinksFile}
+use Rattle.k_split_laws.specs.SeenLaws.{StateOfUnlinkSeen, StepsDroppedSeen, StepsMkdirSeen, StepsOpenedSeen, StepsRmdirSeen, StepsUnlinkedSeen, UnlinksFileSeen}
 use Rattle.k_split_laws.specs.Lives.{leaves_dropped, leaves_gone, leaves_made, leaves_row, leaves_same}
 use Rattle.k_split_laws.specs.Spelled.{last_fits}
-
--- a World is valid at some words
-pub valid_now : (v : Volume) (d : List Cell) (claims : List (ℕ × Draft)) (jobs : List Job) (numbers : List ℕ) (s : State) (count : ℕ) → StandsFor v d claims jobs numbers s count → IsWorld v claims jobs (journaled (words_of d)) numbers s count
-valid_now v d claims jobs numbers s count device = device.world (words_of d) (IsImage-words_of d)
 
 -- the entry that was found
 pub found_at : (v : Volume) (p : List (List ℕ)) (entry : Entry) → IsEntryAt v.inodes v.names p entry → IsFound v p entry.parent entry.line entry.child
@@ -70,8 +61,8 @@ pub used_plain : (v : Volume) (ino : ℕ) → IsUsed v ino → (inode v ino).kin
 used_plain v ino used staging = let never : true ≡ false = sym used ∙ ap is_used staging in cc
 
 -- MKDIR
-pub steps_mkdir : StepsMkdir
-steps_mkdir v d claims jobs numbers s count who p w ino device lets small spelled none is =
+pub steps_mkdir_seen : StepsMkdirSeen
+steps_mkdir_seen v claims jobs numbers s count who p w ino seen lets small spelled none is =
     subst (λ i. IsStep (Some i) v w claims jobs numbers (renumbered numbers i (length s.nodes)) s (after_call s (who, Call.Mkdir p)) count (count + 1)) (sym is.ino_is)
     (subst (λ x. IsStep (Some is.place.ino) v x claims jobs numbers (renumbered numbers is.place.ino (length s.nodes)) s (after_call s (who, Call.Mkdir p)) count (count + 1)) (sym is.is_made) step) where
       free : IsLowestFree v.inodes is.place.ino
@@ -82,17 +73,17 @@ steps_mkdir v d claims jobs numbers s count who p w ino device lets small spelle
         geometry = refl;
         base = refl;
         staging = λ i is_staging. refl;
-        leaves = leaves_made Directory is.place.ino is.place.line (row_to p is.place.parent is.place.ino) v claims count free.within (valid_now v d claims jobs numbers s count device).aged free.free;
-        room = room_made Directory is.place.ino is.place.line (row_to p is.place.parent is.place.ino) v claims jobs s (after_call s (who, Call.Mkdir p)) count device.room
-            (valid_now v d claims jobs numbers s count device).aged free.within free.free (keeps_setting s (who, Call.Mkdir p)).shape;
+        leaves = leaves_made Directory is.place.ino is.place.line (row_to p is.place.parent is.place.ino) v claims count free.within seen.world.aged free.free;
+        room = room_made Directory is.place.ino is.place.line (row_to p is.place.parent is.place.ino) v claims jobs s (after_call s (who, Call.Mkdir p)) count seen.room
+            seen.world.aged free.within free.free (keeps_setting s (who, Call.Mkdir p)).shape;
         takes = λ f world.
             IsWorld-mkdir v claims jobs f numbers s count who p is.place.parent is.place.ino is.place.line world small lets none is.is_place.is_new free is.is_place.room.line
             (last_fits p spelled is.is_place.is_new.directory.below is.is_place.is_new.directory.short);
       }
 
 -- OPEN that makes the file
-pub steps_opened : StepsOpened
-steps_opened v d claims jobs numbers s count who h p flags w ino device lets small spelled none is =
+pub steps_opened_seen : StepsOpenedSeen
+steps_opened_seen v claims jobs numbers s count who h p flags w ino seen lets small spelled none is =
     subst (λ i. IsStep (Some i) v w claims jobs numbers (renumbered numbers i (length s.nodes)) s (after_call s (who, Call.Open h p flags)) count (count + 1)) (sym is.ino_is)
     (subst (λ x. IsStep (Some is.place.ino) v x claims jobs numbers (renumbered numbers is.place.ino (length s.nodes)) s (after_call s (who, Call.Open h p flags)) count (count + 1)) (sym is.is_made) step) where
       free : IsLowestFree v.inodes is.place.ino
@@ -103,25 +94,25 @@ steps_opened v d claims jobs numbers s count who h p flags w ino device lets sma
         geometry = refl;
         base = refl;
         staging = λ i is_staging. refl;
-        leaves = leaves_made File is.place.ino is.place.line (row_to p is.place.parent is.place.ino) v claims count free.within (valid_now v d claims jobs numbers s count device).aged free.free;
-        room = room_made File is.place.ino is.place.line (row_to p is.place.parent is.place.ino) v claims jobs s (after_call s (who, Call.Open h p flags)) count device.room
-            (valid_now v d claims jobs numbers s count device).aged free.within free.free (keeps_setting s (who, Call.Open h p flags)).shape;
+        leaves = leaves_made File is.place.ino is.place.line (row_to p is.place.parent is.place.ino) v claims count free.within seen.world.aged free.free;
+        room = room_made File is.place.ino is.place.line (row_to p is.place.parent is.place.ino) v claims jobs s (after_call s (who, Call.Open h p flags)) count seen.room
+            seen.world.aged free.within free.free (keeps_setting s (who, Call.Open h p flags)).shape;
         takes = λ f world.
             IsWorld-created v claims jobs f numbers s count who h p flags is.place.parent is.place.ino is.place.line world small lets none is.is_place.is_new free is.is_place.room.line
             (last_fits p spelled is.is_place.is_new.directory.below is.is_place.is_new.directory.short);
       }
 
 -- RMDIR
-pub steps_rmdir : StepsRmdir
-steps_rmdir v d claims jobs numbers s count who p w device lets none is =
+pub steps_rmdir_seen : StepsRmdirSeen
+steps_rmdir_seen v claims jobs numbers s count who p w seen lets none is =
     subst (λ x. IsStep (Some is.entry.child) v x claims jobs numbers numbers s (after_call s (who, Call.Rmdir p)) count count) (sym is.is_removed)
     (record {
       geometry = refl;
       base = refl;
       staging = λ i is_staging. refl;
       leaves = leaves_row (Some is.entry.child) v (node_set is.entry.child (gone_node (inode v is.entry.child)) v) claims is.entry.line None
-          (leaves_gone v claims count is.entry.child (used_below v is.entry.child used) (valid_now v d claims jobs numbers s count device).aged (used_plain v is.entry.child used));
-      room = room_removed is.entry.line is.entry.child v claims jobs s (after_call s (who, Call.Rmdir p)) device.room
+          (leaves_gone v claims count is.entry.child (used_below v is.entry.child used) seen.world.aged (used_plain v is.entry.child used));
+      room = room_removed is.entry.line is.entry.child v claims jobs s (after_call s (who, Call.Rmdir p)) seen.room
           (used_below v is.entry.child used)
           (keeps_setting s (who, Call.Rmdir p)).shape;
       takes = λ f world.
@@ -132,19 +123,19 @@ steps_rmdir v d claims jobs numbers s count who p w device lets none is =
     found = found_at v p is.entry is.is_directory.is_entry
 
     used : IsUsed v is.entry.child
-    used = found_used v claims jobs (journaled (words_of d)) numbers s count p is.entry.parent is.entry.line is.entry.child (valid_now v d claims jobs numbers s count device) found
+    used = found_used v claims jobs seen.words numbers s count p is.entry.parent is.entry.line is.entry.child seen.world found
 
 -- UNLINK: the name goes,
-pub steps_unlinked : StepsUnlinked
+pub steps_unlinked_seen : StepsUnlinkedSeen
 unfolding unnamed_state
-steps_unlinked v d claims jobs numbers s count p w ino device is =
+steps_unlinked_seen v claims jobs numbers s count p w ino seen is =
     subst (λ x. IsStep None v x claims jobs numbers numbers s (unnamed_state s p) count count) (sym is.is_unlinked)
     (record {
       geometry = refl;
       base = refl;
       staging = λ i is_staging. refl;
       leaves = leaves_row None v v claims is.entry.line None (leaves_same v claims);
-      room = room_unnamed is.entry.line v claims jobs s (unnamed_state s p) device.room refl;
+      room = room_unnamed is.entry.line v claims jobs s (unnamed_state s p) seen.room refl;
       takes = λ f world. IsWorld-unlink_midway v claims jobs f numbers s count p is.entry.parent is.entry.line is.entry.child world (found_at v p is.entry is.is_file.is_entry) is.is_file.is_file;
     })
 
@@ -155,17 +146,17 @@ plain_file File used plain = refl
 plain_file Staging used plain = cc
 
 -- the file may be dropped then,
-pub unlinks_file : UnlinksFile
-unlinks_file v d claims jobs numbers s count p w ino device is =
+pub unlinks_file_seen : UnlinksFileSeen
+unlinks_file_seen v claims jobs numbers s count p w ino seen is =
     subst (λ n. MayDrop n w) (sym is.ino_is) (subst (MayDrop is.entry.child) (sym is.is_unlinked) may) where
-      world : IsWorld v claims jobs (journaled (words_of d)) numbers s count
-      world = valid_now v d claims jobs numbers s count device
+      world : IsWorld v claims jobs seen.words numbers s count
+      world = seen.world
 
       found : IsFound v p is.entry.parent is.entry.line is.entry.child
       found = found_at v p is.entry is.is_file.is_entry
 
       used : IsUsed v is.entry.child
-      used = found_used v claims jobs (journaled (words_of d)) numbers s count p is.entry.parent is.entry.line is.entry.child world found
+      used = found_used v claims jobs seen.words numbers s count p is.entry.parent is.entry.line is.entry.child world found
 
       r : IsRowFound v.names is.entry.parent (last_name p) is.entry.line is.entry.child
       r = row_of v p is.entry.parent is.entry.line is.entry.child found
@@ -181,15 +172,15 @@ unlinks_file v d claims jobs numbers s count p w ino device is =
       }
 
 -- and the state of the call's end is that without the name, with the file swept
-pub state_unlink : StateOfUnlink
+pub state_unlink_seen : StateOfUnlinkSeen
 unfolding unlink_done
-state_unlink v d claims jobs numbers s count who p w ino device none is =
+state_unlink_seen v claims jobs numbers s count who p w ino seen none is =
     ap (λ o. (stepped s o (unlink_done alone s p)).state) none_there ∙ ap (swept alone (unnamed_state s p)) at where
-      world : IsWorld v claims jobs (journaled (words_of d)) numbers s count
-      world = valid_now v d claims jobs numbers s count device
+      world : IsWorld v claims jobs seen.words numbers s count
+      world = seen.world
 
       mirror : Mirrors (IsUsed v) numbers (volume_space v) (space s)
-      mirror = world_mirror v claims jobs (journaled (words_of d)) numbers s count world
+      mirror = world_mirror v claims jobs seen.words numbers s count world
 
       none_there : first (unlink_rows (space s) p) ≡ None
       none_there = ap first (sym ((HaveSameRows-Mirrors (IsUsed v) numbers (volume_space v) (space s) mirror).unlink p)) ∙ none
@@ -200,15 +191,15 @@ state_unlink v d claims jobs numbers s count who p w ino device none is =
 -- ---- a file without a name goes
 
 -- DROPPED: nobody has it open
-pub steps_dropped : StepsDropped
-steps_dropped v d claims jobs numbers s count c device may shut =
+pub steps_dropped_seen : StepsDroppedSeen
+steps_dropped_seen v claims jobs numbers s count c seen may shut =
     subst (λ x. IsStep (Some c) v (dropped c v) claims jobs numbers numbers s x count count) (sym same)
     (record {
       geometry = refl;
       base = refl;
       staging = λ i is_staging. (dropped-others c v).maps i ((λ one. (let never : Staging ≡ File = sym is_staging ∙ (ap (λ n. (inode v n).kind) one ∙ may.file) in cc)), tt);
       leaves = leaves_dropped v claims count c may.below all world.aged (used_plain v c used);
-      room = room_dropped c v claims jobs s gone device.room may.below all refl;
+      room = room_dropped c v claims jobs s gone seen.room may.below all refl;
       takes = λ f world.
           IsWorld-dropped v claims jobs f numbers s gone count c world may.file (count-nameless v.names c may.unnamed) shut
           (GoOn-gone v claims jobs f numbers s (number numbers c) world.valid shut)
@@ -216,8 +207,8 @@ steps_dropped v d claims jobs numbers s count c device may shut =
           (get_or-set_same s.nodes (number numbers c) Node.Gone Node.Gone (world.valid.stands.names.within c used)) refl (length-set s.nodes (number numbers c) Node.Gone) refl;
     })
   where
-    world : IsWorld v claims jobs (journaled (words_of d)) numbers s count
-    world = valid_now v d claims jobs numbers s count device
+    world : IsWorld v claims jobs seen.words numbers s count
+    world = seen.world
 
     gone : State
     gone = with_node s (number numbers c) Node.Gone

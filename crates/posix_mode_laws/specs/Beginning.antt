@@ -63,7 +63,7 @@ world_at_rest rule starts v f numbers s stands all = record {
       ∙ file_size v f ino (node_at s.nodes (number numbers ino)) (subst (λ kind. NodeStands v [] f ino kind (node_at s.nodes (number numbers ino))) file (stands.nodes.each ino (ap is_used file)))
 
 -- a log that shows no claim has no entry
-no_entry : (v : Volume) (f : Words) → ShowsLog v [] f → HasNoEntry v f
+pub no_entry : (v : Volume) (f : Words) → ShowsLog v [] f → HasNoEntry v f
 no_entry v f log slot below = by (entry_in v f slot) (λ d is. (log.shows slot d).1 (below, is)) where
   by : (o : Option Draft) → ((d : Draft) → o ≡ Some d → ⊥) → o ≡ None
   by None none = refl

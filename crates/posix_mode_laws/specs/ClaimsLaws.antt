@@ -56,19 +56,19 @@ space_sized lengths v =
 
 -- ---- what is live
 
-inode_sized : (lengths : List ℕ) (v : Volume) (ino : ℕ) → inode (sized lengths v) ino ≡ record (inode v ino) { size = (inode (sized lengths v) ino).size }
+pub inode_sized : (lengths : List ℕ) (v : Volume) (ino : ℕ) → inode (sized lengths v) ino ≡ record (inode v ino) { size = (inode (sized lengths v) ino).size }
 inode_sized lengths v ino = with_sizes-at v.inodes lengths ino
 
-applied_sized : (lengths : List ℕ) (v : Volume) (ino : ℕ) → (inode (sized lengths v) ino).applied ≡ (inode v ino).applied
+pub applied_sized : (lengths : List ℕ) (v : Volume) (ino : ℕ) → (inode (sized lengths v) ino).applied ≡ (inode v ino).applied
 applied_sized lengths v ino = ap (λ (x : Inode). x.applied) (inode_sized lengths v ino)
 
-generation_sized : (lengths : List ℕ) (v : Volume) (ino : ℕ) → (inode (sized lengths v) ino).generation ≡ (inode v ino).generation
+pub generation_sized : (lengths : List ℕ) (v : Volume) (ino : ℕ) → (inode (sized lengths v) ino).generation ≡ (inode v ino).generation
 generation_sized lengths v ino = ap (λ (x : Inode). x.generation) (inode_sized lengths v ino)
 
-of_file_sized : (lengths : List ℕ) (v : Volume) (d : Draft) → is_of_file (sized lengths v) d ≡ is_of_file v d
+pub of_file_sized : (lengths : List ℕ) (v : Volume) (d : Draft) → is_of_file (sized lengths v) d ≡ is_of_file v d
 of_file_sized lengths v d = λ i. is_file (kind-sized lengths v d.ino i) && (generation_sized lengths v d.ino i == d.generation)
 
-live_sized : (lengths : List ℕ) (v : Volume) (d : Draft) → is_live (sized lengths v) d ≡ is_live v d
+pub live_sized : (lengths : List ℕ) (v : Volume) (d : Draft) → is_live (sized lengths v) d ≡ is_live v d
 live_sized lengths v d = λ i. of_file_sized lengths v d i && nat_lt (applied_sized lengths v d.ino i) d.order && (generation_sized lengths v d.staging i == d.staging_generation)
 
 claims_sized : (lengths : List ℕ) (v : Volume) (claims : List (ℕ × Draft)) → live_claims (sized lengths v) claims ≡ live_claims v claims

@@ -54,7 +54,13 @@ PosixRunsPromised =
     (w : Sides) (d : List Cell) (start : State) (kept later : List Item) (unfinished : List Unfinished)
     → PosixRuns Overwritten w d start kept later → KeepsPromise w.committed.geometry d start (kept ++ later) unfinished
 
--- With the stronger rule for bytes, each tree of each image is one that the stronger relation permits.
+-- With the stronger rule for bytes, which is the one that each step keeps, the device keeps this promise,
+abbrev pub StrongRunsPromised : Type 0
+StrongRunsPromised =
+    (w : Sides) (d : List Cell) (start : State) (kept later : List Item) (unfinished : List Unfinished)
+    → PosixRuns LastBeforeCut w d start kept later → KeepsPromise w.committed.geometry d start (kept ++ later) unfinished
+
+-- and each tree of each image is one that the stronger relation permits.
 abbrev pub PosixRunsStrongly : Type 0
 PosixRunsStrongly =
     (w : Sides) (d : List Cell) (start : State) (kept later : List Item) (unfinished : List Unfinished) (image : Words) (left : List TreeEntry)

@@ -13,6 +13,8 @@ pub mod Written
 pub mod Claims
 pub mod ClaimsLaws
 pub mod Sized
+pub mod Changes
+pub mod ChangesLaws
 pub mod Steps
 pub mod Promises
 pub mod Beginning

@@ -1,6 +1,6 @@
 //! POSIX mode in three standings: the medium, the batch as it would be committed, and what the calls see.
 //!
-//! Definitions (`Sides`, `Device`, `Batch`, `Claims`), worked worlds in which they stand, and laws of their steps.
+//! Definitions (`Sides`, `Device`, `Batch`, `Claims`, `Changes`), worked worlds in which they stand, and laws of their steps.
 //! Between two calls the committed volume stands for a front of the history, each file cut to its published
 //! length, with bytes of later writes in place; the volume of the batch for the whole history, cut likewise; and
 //! the batch with the lengths in memory and the staged runs for the state of the calls. The layer above may rely
@@ -14,8 +14,9 @@
 #![tactic(auto)]
 
 ghost use Rattle.posix_mode_laws.specs.BatchLaws.{CommitsBatch, CutIsLeft, CutIsOne, FitsLeft, PathsLead, PermitsActed, PermitsLost, PermitsShown, PermitsUnmounted, StepsBatch, StepsWritten};
+ghost use Rattle.posix_mode_laws.specs.Changes.{SizedDropped, SizedMade, SizedRemoved, SizedRenamed, SizedRenamedOverDirectory, SizedRenamedOverFile, SizedSwitched, SizedUnnamed};
 ghost use Rattle.posix_mode_laws.specs.Claims.{KeepsClaims, SizedAgain, SizedKinds, SpaceSized};
-ghost use Rattle.posix_mode_laws.specs.Laws.{BeginsInPosixMode, HasLostWrite, HasWaitingBlock, HasWorldAfterCheckpoint, HasWorldCut, HasWorldCutInCheckpoint, HasWorldInCheckpoint, HasWorldUsedAgain, HasWorldWithRun, KeepsCommitted, KeepsSane, KeepsStrongCommitted, PermitsTreeOfMedium, PermitsTreeStrongly, PosixRunsPromised, PosixRunsStrongly, StagesNoFreed};
+ghost use Rattle.posix_mode_laws.specs.Laws.{BeginsInPosixMode, HasLostWrite, HasWaitingBlock, HasWorldAfterCheckpoint, HasWorldCut, HasWorldCutInCheckpoint, HasWorldInCheckpoint, HasWorldUsedAgain, HasWorldWithRun, KeepsCommitted, KeepsSane, KeepsStrongCommitted, PermitsTreeOfMedium, PermitsTreeStrongly, PosixRunsPromised, PosixRunsStrongly, StagesNoFreed, StrongRunsPromised};
 
 /// Sizes are no part of what makes a volume sane.
 pub fn sizes_are_no_rule()
@@ -27,6 +28,18 @@ pub fn sizes_leave_names()
     ensures again { SizedAgain }
     ensures kinds { SizedKinds }
     ensures space { SpaceSized }
+{}
+
+/// A change of names or of a map, of a volume with other sizes, is that of the volume, with the sizes behind it.
+pub fn sizes_leave_changes()
+    ensures made { SizedMade }
+    ensures removed { SizedRemoved }
+    ensures unnamed { SizedUnnamed }
+    ensures renamed { SizedRenamed }
+    ensures over_file { SizedRenamedOverFile }
+    ensures over_directory { SizedRenamedOverDirectory }
+    ensures dropped { SizedDropped }
+    ensures switched { SizedSwitched }
 {}
 
 /// Other claims of the same entries, and other lengths, leave the World.
@@ -45,9 +58,11 @@ pub fn the_tree_of_the_medium_is_permitted()
     ensures strongly { PermitsTreeStrongly }
 {}
 
-/// A device that runs in POSIX mode keeps the promise. By the stronger rule each tree is one of the stronger relation.
+/// A device that runs in POSIX mode keeps the promise, by either rule for bytes. By the stronger one each tree is one
+/// of the stronger relation.
 pub fn posix_mode_keeps_its_promise()
     ensures promised { PosixRunsPromised }
+    ensures by_stronger_rule { StrongRunsPromised }
     ensures strongly { PosixRunsStrongly }
 {}
 

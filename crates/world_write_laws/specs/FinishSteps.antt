@@ -24,8 +24,9 @@ use Rattle.world_step_laws.specs.Steps.{AreBeside, flights_of, HaveSameFiles, In
 use Rattle.world_step_laws.specs.Touched.{only}
 use Rattle.world_step_laws.specs.Worlds.{IsWorld}
 use Rattle.world_write_laws.specs.JobSteps.{landed, Valid-front}
+use Rattle.world_write_laws.specs.BesideLaws.{KeepsFinishedInPlaceBeside}
 use Rattle.world_write_laws.specs.JobsLaws.{KeepsFinishedInPlace}
-use Rattle.world_write_laws.specs.PlaceSteps.{in_place}
+use Rattle.world_write_laws.specs.PlaceSteps.{in_place, in_place_beside}
 
 -- the state in which the job has acted, with these bytes
 abbrev left_with : List ℕ → State → Job → List ℕ → State
@@ -90,6 +91,11 @@ beside_apart : (j : Job) (jobs : List Job) → ApartFrom j jobs → AreBeside (o
 beside_apart j [] apart = tt
 beside_apart j (k ∷ jobs) apart = (ne_eqb k.draft.ino j.draft.ino (λ same. apart.0.files (sym same)), beside_apart j jobs apart.1)
 
+set_twice : (nodes : List Node) (k : ℕ) (x y : Node) → slice_set (slice_set nodes k x) k y ≡ slice_set nodes k y
+set_twice [] k x y = refl
+set_twice (z ∷ zs) zero x y = refl
+set_twice (z ∷ zs) (suc k) x y = ap (λ l. z ∷ l) (set_twice zs k x y)
+
 pub finished_in_place : KeepsFinishedInPlace
 finished_in_place v claims a j b f g numbers s count slot world holds writes =
     let live = live_claims v claims in
@@ -114,8 +120,21 @@ finished_in_place v claims a j b f g numbers s count slot world holds writes =
     })
     (last.entries ∙ sym first.entries) (last.shape ∙ sym first.shape)
     (last.nodes ∙ (sym (set_twice s.nodes n (with_whole s n j.found) (with_whole s n j.whole)) ∙ ap (λ xs. slice_set xs n (with_whole s n j.whole)) (sym first.nodes))))
-  where
-    set_twice : (nodes : List Node) (k : ℕ) (x y : Node) → slice_set (slice_set nodes k x) k y ≡ slice_set nodes k y
-    set_twice [] k x y = refl
-    set_twice (z ∷ zs) zero x y = refl
-    set_twice (z ∷ zs) (suc k) x y = ap (λ l. z ∷ l) (set_twice zs k x y)
+
+-- where it is the only one, it is enough that blocks of other files are left alone
+pub finished_beside : KeepsFinishedInPlaceBeside
+finished_beside v claims j f g numbers s count slot world holds writes =
+    let live = live_claims v claims in
+    let n : ℕ = number numbers j.draft.ino in
+    let valid = world.valid in
+    let job = valid.out.0 in
+    let after : State = left_with numbers s j j.whole in
+    let same : after ≡ after_call s (unfinished_call j) = with_bytes-whole s (unfinished_call j) n j.whole job.puts (valid.stands.names.within j.draft.ino (live_used v j.draft job.alive)) in
+    let first = leaves_with v live f numbers s j j.found valid.stands job in
+    let last = leaves_with v live f numbers s j j.whole valid.stands job in
+    let room_is : need_of s j.who j.call + needs s [] ≤ room s = omega (arith, valid.room, needs_cons s j []) in
+    subst (λ x. IsWorld v (claims ++ (slot, j.draft) ∷ []) [] g numbers x count) same
+    (in_place_beside v (claims ++ (slot, j.draft) ∷ []) f g numbers (acted numbers s j) after count j.draft.ino j.whole (published_of (node_at s.nodes n))
+    (landed v claims [] j [] f numbers s count slot world holds) writes (Fits-after s after (unfinished_call j) n j.whole j.whole job.puts last refl (omega (arith, room_is)) valid.fits)
+    (last.entries ∙ sym first.entries) (last.shape ∙ sym first.shape)
+    (last.nodes ∙ (sym (set_twice s.nodes n (with_whole s n j.found) (with_whole s n j.whole)) ∙ ap (λ xs. slice_set xs n (with_whole s n j.whole)) (sym first.nodes))))

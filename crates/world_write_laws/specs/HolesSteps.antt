@@ -1,30 +1,27 @@
 -- Holes of a file get blocks of zeros: the World stays as it is.
-use Rattle.std.specs.Prelude.{zero, suc, ◌≡◌, ◌≢◌, ◌⊎◌, ◌<◌, ◌≤◌, ◌+◌, ◌-◌, ◌*◌, ◌/◌, ◌%◌, ◌^◌, ◌==◌, ◌&&◌, nat_lt, ℕ, Bool, true, false, List, [], ◌∷◌, length, map, Option, Some, None, IsSome, option_map, slice_get, slice_index, refl}
+use Rattle.std.specs.Prelude.{zero, suc, ◌≡◌, ◌≢◌, ◌⊎◌, ◌<◌, ◌≤◌, ◌+◌, ◌-◌, ◌*◌, ◌/◌, ◌%◌, ◌^◌, ◌==◌, ◌&&◌, nat_lt, ℕ, true, false, List, [], ◌∷◌, length, map, Option, Some, None, IsSome, option_map, slice_get, slice_index, refl}
 use Rattle.std.proofs.Common.{arith, ap, ◌∙◌, sym, subst, inl, inr}
 use Rattle.std.proofs.lemmas.Bool.{cases_eq}
-use Rattle.std.proofs.lemmas.Bool.Decides.{Decides-eqb, nat_tests}
+use Rattle.std.proofs.lemmas.Bool.Decides.{Decides-eqb}
 use Rattle.world_step_laws.specs.k_split_model.Zeros.{AreZeros}
-use Rattle.world_step_laws.specs.world_model.pm_model.Words.{byte_of, Words}
+use Rattle.world_step_laws.specs.world_model.pm_model.Words.{Words}
 use Rattle.world_step_laws.specs.world_model.layout_model.Places.{IsGeometry}
 use Rattle.world_step_laws.specs.world_model.extent_model.Extents.{disk_at}
 use Rattle.world_step_laws.specs.world_model.layout_model.declared.lines.Draft.{Draft}
-use Rattle.world_step_laws.specs.world_model.layout_model.declared.lines.Kind.{Kind}
 use Rattle.world_step_laws.specs.world_model.layout_model.declared.lines.Kind.TheVariants.{File, Staging}
 use Rattle.world_step_laws.specs.world_model.layout_model.Names.{child_named}
 use Rattle.world_step_laws.specs.world_model.image_model.Content.{byte_in, disk_by, disk_of, entry_of_block, size_by}
 use Rattle.world_step_laws.specs.world_model.image_model.Live.{is_file, is_live, is_of_file, latest}
 use Rattle.world_step_laws.specs.world_model.image_model.Volume.{extents, inode, Volume}
 use Rattle.world_step_laws.specs.world_model.posix_tables.Nodes.{node_at}
-use Rattle.world_step_laws.specs.world_model.posix_spec.State.{State}
 use Rattle.world_step_laws.specs.world_model.list_laws.Filters.{filter-agree}
 use Rattle.world_step_laws.specs.world_model.list_laws.Members.{In, slice_get-In}
 use Rattle.world_step_laws.specs.world_model.Jobs.{Job, JobsStand, live_claims}
-use Rattle.world_step_laws.specs.world_model.Stands.{Consecutive, entries_of, is_used, IsUsed, NodeStands, number, Stands}
+use Rattle.world_step_laws.specs.world_model.Stands.{Consecutive, entries_of, is_used, NodeStands, number, Stands}
 use Rattle.world_step_laws.specs.world_model.Landed.{NodeStands-same}
 use Rattle.world_step_laws.specs.Ages.{AreAged-same}
 use Rattle.world_step_laws.specs.Steps.{AreBeside}
 use Rattle.world_step_laws.specs.Touched.{only}
-use Rattle.world_step_laws.specs.Worlds.{IsWorld}
 use Rattle.world_write_laws.specs.PlaceSteps.{covering}
 use Rattle.world_write_laws.specs.HolesLaws.{FillsHoles, KeepsHolesFilled, KeepsLine}
 

@@ -1,6 +1,6 @@
 -- The laws of jobs and laps, of resized files and of bytes in place, each as one statement. `IsWorld v claims jobs f numbers s count`: the World is valid,
 -- `count` nodes were made since the lap began, and `numbers` has the node of each inode.
-use Rattle.std.specs.Prelude.{◌≡◌, ◌<◌, ◌≤◌, ◌+◌, ◌^◌, ℕ, true, List, [], ◌∷◌, ◌++◌, None, Some, slice_set}
+use Rattle.std.specs.Prelude.{◌≡◌, ◌≤◌, ◌+◌, ℕ, true, List, [], ◌∷◌, ◌++◌, None, Some, slice_set}
 use Rattle.world_step_laws.specs.world_model.pm_model.Words.{Words}
 use Rattle.world_step_laws.specs.world_model.layout_model.declared.lines.Draft.{Draft}
 use Rattle.world_step_laws.specs.world_model.image_model.Reading.{base_set}

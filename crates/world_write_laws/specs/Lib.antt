@@ -1,5 +1,7 @@
 pub mod Resizes
 pub mod Places
+pub mod Renews
+pub mod BesideLaws
 pub mod JobsLaws
 pub mod JobSteps
 pub mod ResizeSteps
@@ -7,6 +9,7 @@ pub mod PlaceSteps
 pub mod HolesLaws
 pub mod HolesSteps
 pub mod FinishSteps
+pub mod RenewSteps
 pub mod Relinks
 pub mod Restages
 pub mod RunsLaws

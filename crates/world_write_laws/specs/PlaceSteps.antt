@@ -1,5 +1,5 @@
--- Bytes are written in place, in the blocks of a file that no job has.
-use Rattle.std.specs.Prelude.{◌≡◌, ◌≢◌, ◌⊎◌, ◌<◌, ◌≤◌, ◌+◌, ◌-◌, ◌/◌, ◌%◌, ◌==◌, ◌&&◌, ℕ, true, false, List, [], ◌∷◌, length, Option, Some, None, refl}
+-- Bytes are written in place, in the blocks of a file that no job has; where no job is out, in any block that no other file has.
+use Rattle.std.specs.Prelude.{◌≡◌, ◌≢◌, ◌⊎◌, ◌<◌, ◌≤◌, ◌+◌, ◌-◌, ◌/◌, ◌%◌, ◌==◌, ◌&&◌, ℕ, true, false, List, [], ◌∷◌, length, Option, Some, None, slice_set, refl}
 use Rattle.std.proofs.Common.{arith, ap, ◌∙◌, sym, subst, inl, inr}
 use Rattle.std.proofs.lemmas.Bool.{and_parts, cases_eq, cases_lt, eq-eqb}
 use Rattle.std.proofs.lemmas.Bool.Decides.{Decides-eqb}
@@ -20,7 +20,7 @@ use Rattle.world_step_laws.specs.world_model.list_laws.Members.{In}
 use Rattle.world_step_laws.specs.world_model.crash_spec.Sync.{IsPartOf}
 use Rattle.world_step_laws.specs.commute_laws.Needs.{AreInFlight}
 use Rattle.world_step_laws.specs.world_model.Jobs.{Job, JobsStand, live_claims}
-use Rattle.world_step_laws.specs.world_model.Stands.{is_used, IsSane, IsUsed, LogStands, NodeStands, number, Stands}
+use Rattle.world_step_laws.specs.world_model.Stands.{FileStands, is_used, IsSane, IsUsed, LogStands, NodeStands, number, Stands}
 use Rattle.world_step_laws.specs.world_model.JobLaws.{live_used}
 use Rattle.world_step_laws.specs.world_model.Landed.{NamesStand-same, NodeStands-same, within_bounds}
 use Rattle.world_step_laws.specs.world_model.Latest.{latest-In}
@@ -28,8 +28,10 @@ use Rattle.world_step_laws.specs.world_model.Lent.{disk_of-in_data, once_named}
 use Rattle.world_step_laws.specs.world_model.TreeRules.{used_below}
 use Rattle.world_step_laws.specs.Steps.{AreBeside, flights_of, HaveSameFiles}
 use Rattle.world_step_laws.specs.Touched.{only}
+use Rattle.world_step_laws.specs.Counts.{HasShape}
+use Rattle.world_write_laws.specs.BesideLaws.{KeepsInPlaceBeside, PlaceIsBeside}
 use Rattle.world_write_laws.specs.JobsLaws.{KeepsInPlace}
-use Rattle.world_write_laws.specs.Places.{WritesInPlace}
+use Rattle.world_write_laws.specs.Places.{WritesBeside, WritesInPlace}
 
 -- ---- two files share no block
 
@@ -123,39 +125,21 @@ jobs_in_place v live f g numbers s new ino bytes sane log writes (j ∷ jobs) of
       jobs_in_place v live f g numbers s new ino bytes sane log writes jobs off.1 out.2 on.1 files.1,
     )
 
-pub in_place : KeepsInPlace
-in_place v claims jobs f g numbers s new count ino bytes published world writes off on entries shape nodes = record {
-  valid = record {
-    stands = record {
-      sane = stands.sane;
-      names = NamesStand-same v numbers s new entries (ap length nodes ∙ length-set s.nodes (number numbers ino) node) stands.names;
-      nodes = record { each = λ i used. each i used (cases_eq i ino); all = λ n there. all n there (cases_eq n (number numbers ino)) };
-      log = stands.log;
-    };
-    out = jobs_in_place v live f g numbers s new ino bytes stands.sane stands.log writes jobs off world.valid.out on.flying_on on.files;
-    fits = on.fits;
-    room = on.room;
-  };
-  claims_stand = world.claims_stand;
-  aged = world.aged;
-  shape = record {
-    root = subst (λ x. 1 ≤ x.nodes) (sym shape) world.shape.root;
-    nodes = ap (λ x. x.nodes + 4) shape ∙ world.shape.nodes;
-    names = ap (λ x. x.names) shape ∙ world.shape.names;
-  };
-  geometry = world.geometry;
+-- THE VOLUME STANDS for the next state: the file has its bytes, and those of all other files are the same.
+pub stands_written : (v : Volume) (live : List Draft) (f g : Words) (numbers : List ℕ) (s new : State) (ino : ℕ) (bytes : List ℕ) (published : ℕ) → Stands v live f numbers s → (inode v ino).kind ≡ File → FileStands v live g ino bytes
+    → ((i x k : ℕ) → IsUsed v i → i ≢ ino → byte_in g (disk_of v live i x) k ≡ byte_in f (disk_of v live i x) k) → new.entries ≡ s.entries
+    → new.nodes ≡ slice_set s.nodes (number numbers ino) (Node.File (record { bytes = bytes; published = published })) → Stands v live g numbers new
+stands_written v live f g numbers s new ino bytes published stands file own same entries nodes = record {
+  sane = stands.sane;
+  names = NamesStand-same v numbers s new entries (ap length nodes ∙ length-set s.nodes (number numbers ino) node) stands.names;
+  nodes = record { each = λ i used. each i used (cases_eq i ino); all = λ n there. all n there (cases_eq n (number numbers ino)) };
+  log = stands.log;
 } where
-  live : List Draft
-  live = live_claims v claims
-
-  stands : Stands v live f numbers s
-  stands = world.valid.stands
-
   node : Node
   node = Node.File (record { bytes = bytes; published = published })
 
   used_own : IsUsed v ino
-  used_own = ap is_used writes.file
+  used_own = ap is_used file
 
   other_node : (n : ℕ) → n ≢ number numbers ino → node_at new.nodes n ≡ node_at s.nodes n
   other_node n other = ap (λ xs. node_at xs n) nodes ∙ get_or-set_other s.nodes (number numbers ino) n node Node.Gone other
@@ -165,16 +149,77 @@ in_place v claims jobs f g numbers s new count ino bytes published world writes 
 
   own_stands : NodeStands v live g ino (inode v ino).kind (node_at new.nodes (number numbers ino))
   own_stands =
-      subst (λ k. NodeStands v live g ino k (node_at new.nodes (number numbers ino))) (sym writes.file)
-      (subst (NodeStands v live g ino File) (sym own_node) (record { size = writes.size; each = writes.each }))
+      subst (λ k. NodeStands v live g ino k (node_at new.nodes (number numbers ino))) (sym file) (subst (NodeStands v live g ino File) (sym own_node) own)
 
   each : (i : ℕ) → IsUsed v i → (i ≡ ino) ⊎ (i ≢ ino) → NodeStands v live g i (inode v i).kind (node_at new.nodes (number numbers i))
-  each i used (inl own) = subst (λ k. NodeStands v live g k (inode v k).kind (node_at new.nodes (number numbers k))) (sym own) own_stands
+  each i used (inl own_is) = subst (λ k. NodeStands v live g k (inode v k).kind (node_at new.nodes (number numbers k))) (sym own_is) own_stands
   each i used (inr other) =
-      subst (NodeStands v live g i (inode v i).kind) (sym (other_node (number numbers i) (λ same. other (stands.names.one i ino used used_own same))))
-      (NodeStands-same v live f v live g i (inode v i).kind (node_at s.nodes (number numbers i))
-      (record { size = refl; bytes = λ k below. other_bytes v live f g ino bytes stands.sane stands.log writes i (k / 4096) k used other }) (stands.nodes.each i used))
+      subst (NodeStands v live g i (inode v i).kind) (sym (other_node (number numbers i) (λ one. other (stands.names.one i ino used used_own one))))
+      (NodeStands-same v live f v live g i (inode v i).kind (node_at s.nodes (number numbers i)) (record { size = refl; bytes = λ k below. same i (k / 4096) k used other }) (stands.nodes.each i used))
 
   all : (n : ℕ) → node_at new.nodes n ≢ Node.Gone → (n ≡ number numbers ino) ⊎ (n ≢ number numbers ino) → (i : ℕ) × IsUsed v i × (number numbers i ≡ n)
-  all n there (inl own) = (ino, used_own, sym own)
+  all n there (inl own_is) = (ino, used_own, sym own_is)
   all n there (inr other) = stands.nodes.all n (λ gone. there (other_node n other ∙ gone))
+
+-- the state has the shape of the volume still
+pub same_shape : (v : Volume) (s new : State) → new.shape ≡ s.shape → HasShape v s → HasShape v new
+same_shape v s new shape has = record {
+  root = subst (λ x. 1 ≤ x.nodes) (sym shape) has.root;
+  nodes = ap (λ x. x.nodes + 4) shape ∙ has.nodes;
+  names = ap (λ x. x.names) shape ∙ has.names;
+}
+
+pub in_place : KeepsInPlace
+in_place v claims jobs f g numbers s new count ino bytes published world writes off on entries shape nodes = record {
+  valid = record {
+    stands = stands_written v live f g numbers s new ino bytes published stands writes.file (record { size = writes.size; each = writes.each }) (other_bytes v live f g ino bytes stands.sane stands.log writes) entries nodes;
+    out = jobs_in_place v live f g numbers s new ino bytes stands.sane stands.log writes jobs off world.valid.out on.flying_on on.files;
+    fits = on.fits;
+    room = on.room;
+  };
+  claims_stand = world.claims_stand;
+  aged = world.aged;
+  shape = same_shape v s new shape world.shape;
+  geometry = world.geometry;
+} where
+  live : List Draft
+  live = live_claims v claims
+
+  stands : Stands v live f numbers s
+  stands = world.valid.stands
+
+-- ---- where no job is out, it is enough that blocks of other files are left alone
+
+beside_bytes : (v : Volume) (live : List Draft) (f g : Words) (ino : ℕ) (bytes : List ℕ) → WritesBeside v live f g ino bytes → (i x k : ℕ) → IsUsed v i → i ≢ ino → byte_in g (disk_of v live i x) k ≡ byte_in f (disk_of v live i x) k
+beside_bytes v live f g ino bytes writes i x k used other = by (disk_of v live i x) refl where
+  rest_small : (n : ℕ) → n % 4096 < 4096
+  rest_small n = omega arith
+
+  by : (o : Option ℕ) → disk_of v live i x ≡ o → byte_in g o k ≡ byte_in f o k
+  by None is = refl
+  by (Some b) is = writes.others i x b (k % 4096) used other is (rest_small k)
+
+pub in_place_beside : KeepsInPlaceBeside
+in_place_beside v claims f g numbers s new count ino bytes published world writes fits entries shape nodes = record {
+  valid = record {
+    stands = stands_written v live f g numbers s new ino bytes published world.valid.stands writes.file (record { size = writes.size; each = writes.each }) (beside_bytes v live f g ino bytes writes) entries nodes;
+    out = tt;
+    fits = fits;
+    room = omega arith;
+  };
+  claims_stand = world.claims_stand;
+  aged = world.aged;
+  shape = same_shape v s new shape world.shape;
+  geometry = world.geometry;
+} where
+  live : List Draft
+  live = live_claims v claims
+
+pub place_is_beside : PlaceIsBeside
+place_is_beside v live f g ino bytes sane log writes = record {
+  file = writes.file;
+  size = writes.size;
+  each = writes.each;
+  others = λ j block b i used other at small.
+      writes.others b i (disk_of-in_data v live sane log j block b used at) small (λ y own. disk_of-apart v live sane log j ino block y b used (ap is_used writes.file) other at own);
+}

@@ -49,7 +49,7 @@ no_cover live ino block none = by (entry_of_block live ino block) refl where
       absurd (subst (In d) none member)
 
 -- what stands of the file by its own map
-stands_alone : (w : Volume) (live : List Draft) (f : Words) (ino : ℕ) (bytes : List ℕ) → entries_of ino live ≡ [] → HasAlone w f ino bytes → FileStands w live f ino bytes
+pub stands_alone : (w : Volume) (live : List Draft) (f : Words) (ino : ℕ) (bytes : List ℕ) → entries_of ino live ≡ [] → HasAlone w f ino bytes → FileStands w live f ino bytes
 stands_alone w live f ino bytes none has = record {
   size = ap (λ ds. size_by (latest ds) (inode w ino).size) none ∙ has.size;
   each = λ i below. ap (λ o. byte_in f (disk_by w o ino (i / 4096)) i) (no_cover live ino (i / 4096) none) ∙ has.each i below;

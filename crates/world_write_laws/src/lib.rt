@@ -4,6 +4,7 @@
 //! be relinked; staging files change where nothing of them is live; and free blocks suffice for all
 //! of it.
 //!
+//! - `beside`: A file is written in place, or is anew, where no job is out.
 //! - `holes`: Holes of a file get blocks that read zero.
 //! - `jobs`: The steps of a logged write keep the World valid, and so do the end of a lap, resized
 //!   files of which nothing is live, and bytes that are written in place.
@@ -15,11 +16,13 @@
 //! Stands on `world_step_laws`.
 #![tactic(auto)]
 
+mod beside;
 mod holes;
 mod jobs;
 mod room;
 mod runs;
 
+pub use beside::{files_are_renewed, files_are_written_beside};
 pub use holes::holes_get_blocks;
 pub use jobs::{files_are_changed, jobs_come_and_go};
 pub use room::{changes_leave_free_blocks, jobs_leave_free_blocks, runs_find_free_blocks};

@@ -5,7 +5,7 @@ use Rattle.std.proofs.Common.{arith, ap, ◌∙◌, sym, inl, inr}
 use Rattle.std.proofs.lemmas.Bool.{cases_Bool}
 use Rattle.std.proofs.lemmas.Bool.Decides.{nat_tests}
 use Rattle.eof_laws.specs.block_counts.Counts.{blocks_for, chains_for, held_by, reserve_for}
-use Rattle.eof_laws.specs.layout_model.Places.{data_blocks, reserve}
+use Rattle.eof_laws.specs.layout_model.Places.{data_blocks}
 use Rattle.eof_laws.specs.image_model.Room.{unused_blocks}
 use Rattle.eof_laws.proofs.k_plans_proofs.FreeCounts.{unwaiting-counted}
 use Rattle.eof_laws.specs.posix_types.declared.call.Mode.{Mode}
@@ -16,7 +16,11 @@ use Rattle.live_model.specs.k_split.MapChanges.{free_blocks_in}
 use Rattle.live_model.specs.staging_files.Keeps.{Staged}
 use Rattle.live_model.specs.staging_files.Reserves.{has_empty, LacksSecondWay, need}
 use Rattle.write_plan.specs.FirstWritesLaws.{FirstHolesFit, FirstWriteFits}
-use Rattle.write_plan.proofs.Held.{leaves_the_reserve, unused_at_least, unused_with_holes}
+use Rattle.eof_laws.specs.layout_model.Journal.{journaled}
+use Rattle.eof_laws.specs.pm_model.Images.{words_of}
+use Rattle.live_model.specs.world_model.Jobs.{live_claims}
+use Rattle.write_plan.specs.Shown.{FirstHolesAreUnused, FirstRunFits}
+use Rattle.write_plan.proofs.Held.{in_files, leaves_kept, leaves_the_reserve, unused_at_least, unused_with_holes}
 
 -- a write needs at least the blocks that it stages
 chains_grow : (a b : ℕ) → a ≤ b → chains_for a ≤ chains_for b
@@ -81,18 +85,27 @@ leaves_reserve : (all kept_back held unused count need : ℕ) → held + kept_ba
 leaves_reserve all kept_back held unused count need back enough le few = omega (arith, back, enough, le, few)
 
 module _ (held : HeldIsTheSum) where
+  pub first_run_fits : FirstRunFits
+  first_run_fits v live f numbers s files mode size start len run are leaves room plan =
+      leaves_reserve (data_blocks v.geometry) (reserve_for (data_blocks v.geometry)) (sum_by held_by files.sizes) (unused_blocks v) run.1 (write_need mode size start (start + len))
+      (leaves_the_reserve v files are held live f numbers s leaves) (unused_at_least v files are) room (run_at_most mode size start len run plan)
+
+  pub first_holes_are_unused : FirstHolesAreUnused
+  first_holes_are_unused v live f numbers s files ino first count are leaves file within =
+      let unused = unused_with_holes v files are ino first count file within in
+      let back = leaves_the_reserve v files are held live f numbers s leaves in
+      omega (arith, unused, back)
+
   pub first_write_fits : FirstWriteFits
   first_write_fits g k t kept lines n s mode size start len wanted_is has run stands fresh ends room plan lacks = by lacks.no_second where
     free : run.1 + reserve_for (data_blocks k.volume.geometry) ≤ free_blocks_in k + 1
     free =
-        let unused = unused_at_least g k t kept lines n s stands fresh ends in
-        let back = leaves_the_reserve g k t kept lines n s stands fresh ends held in
-        let unwaiting = unwaiting-counted (record { volume = k.volume; waiting = k.waiting }) (stands.order.none_waits stands.unbatched) in
-        let enough =
-        leaves_reserve (data_blocks k.volume.geometry) (reserve_for (data_blocks k.volume.geometry)) (sum_by held_by kept.files.sizes) (unused_blocks k.volume) run.1 (write_need mode size start (start + len)) back unused room
-        (run_at_most mode size start len run plan)
+        let fits =
+        first_run_fits k.volume (live_claims k.volume kept.claims) (journaled (words_of k.cells)) stands.numbers s kept.files mode size start len run (in_files g k t kept lines n s stands fresh ends)
+        (leaves_kept g k t kept lines n s stands) room plan
         in
-        omega (arith, enough, unwaiting)
+        let unwaiting = unwaiting-counted (record { volume = k.volume; waiting = k.waiting }) (stands.order.none_waits stands.unbatched) in
+        omega (arith, fits, unwaiting)
 
     needed : need kept.staging k run.1 ≤ free_blocks_in k
     needed =
@@ -105,7 +118,9 @@ module _ (held : HeldIsTheSum) where
 
   pub first_holes_fit : FirstHolesFit
   first_holes_fit g k t kept lines n s ino first count stands fresh ends file within =
-      let unused = unused_with_holes g k t kept lines n s stands fresh ends ino first count file within in
-      let back = leaves_the_reserve g k t kept lines n s stands fresh ends held in
+      let unused =
+      first_holes_are_unused k.volume (live_claims k.volume kept.claims) (journaled (words_of k.cells)) stands.numbers s kept.files ino first count (in_files g k t kept lines n s stands fresh ends)
+      (leaves_kept g k t kept lines n s stands) file within
+      in
       let unwaiting = unwaiting-counted (record { volume = k.volume; waiting = k.waiting }) (stands.order.none_waits stands.unbatched) in
-      omega (arith, unused, back, unwaiting)
+      omega (arith, unused, unwaiting)

@@ -1,5 +1,5 @@
 -- While nothing is staged, the inodes have at most the blocks that their sizes hold.
-use Rattle.std.specs.Prelude.{◌≡◌, ◌⊎◌, ◌≤◌, ◌<◌, ◌+◌, ◌-◌, ℕ, zero, suc, Bool, List, [], ◌∷◌, length, map, Option, None, Some, is_some, slice_index, sum_by, refl}
+use Rattle.std.specs.Prelude.{◌≡◌, ◌⊎◌, ◌≤◌, ◌<◌, ◌+◌, ◌-◌, ℕ, zero, suc, Bool, List, [], ◌∷◌, length, Option, None, Some, is_some, slice_index, sum_by, refl}
 use Rattle.std.specs.List.{range_with_len}
 use Rattle.std.proofs.Common.{arith, ap, ◌∙◌, sym, subst, inl, inr}
 use Rattle.std.proofs.lemmas.Bool.{cases_Bool, cases_lt}
@@ -38,6 +38,10 @@ use Rattle.live_model.specs.world_model.TreeRules.{used_below}
 use Rattle.live_model.specs.staging_files.GivesUp.{nothing_staged}
 use Rattle.live_model.specs.staging_files.Keeps.{IsKeptEmpty, IsStaging}
 use Rattle.live_model.specs.Standing.{Kept, StandsAt}
+use Rattle.eof_laws.specs.file_table.Files.{Files}
+use Rattle.eof_laws.specs.pm_model.Words.{Words}
+use Rattle.eof_laws.specs.layout_model.declared.lines.Draft.{Draft}
+use Rattle.write_plan.specs.Shown.{AreInFiles, LeavesReserve}
 
 -- ---- sums
 
@@ -155,71 +159,50 @@ more_chains a b le = omega (arith, le)
 
 -- ---- the inodes
 
-module _ (g : Geometry) (k : View) (t : Tables) (kept : Kept) (lines : Bool) (n : ℕ) (s : State) (stands : StandsAt g k t kept lines n s) (fresh : kept.staging ≡ nothing_staged) (ends : FilesEnd k.volume kept.files) where
-  abbrev v : Volume
-  v = k.volume
-
-  whole : IsWhole k.volume
-  whole = stands.order.whole
+module _ (v : Volume) (files : Files) (are : AreInFiles v files) where
+  whole : IsWhole v
+  whole = are.whole
 
   -- an inode whose map has no extent has no block
-  bare_blocks : (ino : ℕ) → ino < length k.volume.inodes → length (extents k.volume ino) ≡ 0 → blocks_of k.volume ino ≡ 0
+  bare_blocks : (ino : ℕ) → ino < length v.inodes → length (extents v ino) ≡ 0 → blocks_of v ino ≡ 0
   bare_blocks ino below is =
-      let counted = (has-chain k ino stands.order stands.unbatched below).counted in
+      let counted = are.chains ino below in
       let none : chains_for (length (extents v ino)) ≡ 0 = ap chains_for is in
       omega (arith, counted, none, no_extents (extents v ino) is)
 
-  -- the line of an inode says how many
-  line_says : (ino : ℕ) → ino < length k.volume.inodes → length (extents k.volume ino) ≡ (inode k.volume ino).extents
-  line_says ino below =
-      let there : Stands k.volume.geometry k.volume k.cells = subst (λ u. Stands u.geometry u k.cells) (stands.order.settled stands.unbatched) stands.order.stands in
-      let reads = there.reads (words_of k.cells) (IsImage-words_of k.cells) in
-      (reads.chains ino (omega (arith, below, reads.inode_count))).map.counted
-
-  empty_staging : (x : ℕ) → IsStaging x → IsKeptEmpty kept.staging x
-  empty_staging x is = subst (λ st. IsKeptEmpty st x) (sym fresh) (zeros (x - 1) (omega (arith, is.most, is.least))) where
-    zeros : (i : ℕ) → i < 4 → slice_index nothing_staged.given i ≡ 0
-    zeros zero below = refl
-    zeros (suc zero) below = refl
-    zeros (suc (suc zero)) below = refl
-    zeros (suc (suc (suc zero))) below = refl
-    zeros (suc (suc (suc (suc i)))) below = absurd (omega (arith, below))
-
-  by_kind : (ino : ℕ) (kind : Kind) → (inode k.volume ino).kind ≡ kind → ino < length k.volume.inodes → blocks_of k.volume ino ≤ held_by (size_in kept.files ino)
-  by_kind ino Free is below = omega (arith, bare_blocks ino below (line_says ino below ∙ (free-bare v ino whole is).extents))
-  by_kind ino Directory is below = omega (arith, bare_blocks ino below (line_says ino below ∙ (directory-bare v ino whole (ap is_directory is)).extents))
+  by_kind : (ino : ℕ) (kind : Kind) → (inode v ino).kind ≡ kind → ino < length v.inodes → blocks_of v ino ≤ held_by (size_in files ino)
+  by_kind ino Free is below = omega (arith, bare_blocks ino below (are.lines ino below ∙ (free-bare v ino whole is).extents))
+  by_kind ino Directory is below = omega (arith, bare_blocks ino below (are.lines ino below ∙ (directory-bare v ino whole (ap is_directory is)).extents))
   by_kind ino Staging is below =
       let at : IsKindAt ino Staging = subst (IsKindAt ino) is (whole.kept.kept.kinds ino (omega (arith, below, whole.kept.all.inode_count))) in
       let staging : IsStaging ino = record { least = at.0; most = at.1 } in
-      omega (arith, bare_blocks ino below (ap (λ (es : List Extent). length es) (stands.agrees.empty ino staging (empty_staging ino staging))))
+      omega (arith, bare_blocks ino below (ap (λ (es : List Extent). length es) (are.staging ino staging)))
   by_kind ino File is below =
-      let its = has-chain k ino stands.order stands.unbatched below in
-      let blocks = blocks_at_most (extents v ino) (blocks_for (size_in kept.files ino)) its.canonical (λ b past. ends.maps ino b is past) in
-      let few = extents_at_most (extents v ino) its.canonical in
-      let chains = more_chains (length (extents v ino)) (blocks_for (size_in kept.files ino)) (omega (arith, few, blocks)) in
-      omega (arith, blocks, chains, its.counted)
+      let blocks = blocks_at_most (extents v ino) (blocks_for (size_in files ino)) (are.canonical ino below) (λ b past. are.ends.maps ino b is past) in
+      let few = extents_at_most (extents v ino) (are.canonical ino below) in
+      let chains = more_chains (length (extents v ino)) (blocks_for (size_in files ino)) (omega (arith, few, blocks)) in
+      omega (arith, blocks, chains, are.chains ino below)
 
   -- a file with its holes
-  with_holes : (ino first count : ℕ) → (inode k.volume ino).kind ≡ File → ino < length k.volume.inodes → first + count ≤ blocks_for (size_in kept.files ino)
-      → blocks_of k.volume ino + length (holes (extents k.volume ino) first count) ≤ held_by (size_in kept.files ino)
+  with_holes : (ino first count : ℕ) → (inode v ino).kind ≡ File → ino < length v.inodes → first + count ≤ blocks_for (size_in files ino)
+      → blocks_of v ino + length (holes (extents v ino) first count) ≤ held_by (size_in files ino)
   with_holes ino first count is below within =
-      let its = has-chain k ino stands.order stands.unbatched below in
-      let blocks = blocks_and_holes (extents v ino) (blocks_for (size_in kept.files ino)) first count its.canonical (λ b past. ends.maps ino b is past) within in
-      let few = extents_at_most (extents v ino) its.canonical in
-      let chains = more_chains (length (extents v ino)) (blocks_for (size_in kept.files ino)) (omega (arith, few, blocks)) in
-      omega (arith, blocks, chains, its.counted)
+      let blocks = blocks_and_holes (extents v ino) (blocks_for (size_in files ino)) first count (are.canonical ino below) (λ b past. are.ends.maps ino b is past) within in
+      let few = extents_at_most (extents v ino) (are.canonical ino below) in
+      let chains = more_chains (length (extents v ino)) (blocks_for (size_in files ino)) (omega (arith, few, blocks)) in
+      omega (arith, blocks, chains, are.chains ino below)
 
-  held_all : blocks_held k.volume ≤ sum_by held_by kept.files.sizes
+  held_all : blocks_held v ≤ sum_by held_by files.sizes
   held_all =
-      let count = stands.sizes.count in
-      subst (λ m. sum_by (blocks_of k.volume) (range_with_len 0 m) ≤ sum_by held_by kept.files.sizes) count
-      (sum_bound (blocks_of k.volume) held_by 0 kept.files.sizes (λ i below. subst (λ m. blocks_of k.volume m ≤ held_by (slice_index kept.files.sizes i)) (plus_zero i) (by_kind i (inode k.volume i).kind refl (omega (arith, below, count)))))
+      let count = are.count in
+      subst (λ m. sum_by (blocks_of v) (range_with_len 0 m) ≤ sum_by held_by files.sizes) count
+      (sum_bound (blocks_of v) held_by 0 files.sizes (λ i below. subst (λ m. blocks_of v m ≤ held_by (slice_index files.sizes i)) (plus_zero i) (by_kind i (inode v i).kind refl (omega (arith, below, count)))))
     where
       plus_zero : (i : ℕ) → i ≡ 0 + i
       plus_zero i = omega arith
 
   -- so all data blocks but what files hold are unused
-  pub unused_at_least : data_blocks k.volume.geometry ≤ unused_blocks k.volume + sum_by held_by kept.files.sizes
+  pub unused_at_least : data_blocks v.geometry ≤ unused_blocks v + sum_by held_by files.sizes
   unused_at_least =
       let all =
       unused-held v (λ ino. file_blocks_of (inode v ino).kind)
@@ -228,8 +211,8 @@ module _ (g : Geometry) (k : View) (t : Tables) (kept : Kept) (lines : Bool) (n 
       omega (arith, all, held_all)
 
   -- and so, where a file is to have blocks in its holes
-  pub unused_with_holes : (ino first count : ℕ) → (inode k.volume ino).kind ≡ File → first + count ≤ blocks_for (size_in kept.files ino)
-      → data_blocks k.volume.geometry + length (holes (extents k.volume ino) first count) ≤ unused_blocks k.volume + sum_by held_by kept.files.sizes
+  pub unused_with_holes : (ino first count : ℕ) → (inode v ino).kind ≡ File → first + count ≤ blocks_for (size_in files ino)
+      → data_blocks v.geometry + length (holes (extents v ino) first count) ≤ unused_blocks v + sum_by held_by files.sizes
   unused_with_holes ino first count file within =
       let all =
       unused-held v (λ i. file_blocks_of (inode v i).kind)
@@ -237,24 +220,61 @@ module _ (g : Geometry) (k : View) (t : Tables) (kept : Kept) (lines : Bool) (n 
       in
       omega (arith, all, held_with)
     where
-      there : ino < length k.volume.inodes
-      there = used_below k.volume ino (ap is_used file)
+      there : ino < length v.inodes
+      there = used_below v ino (ap is_used file)
 
       plus_zero : (i : ℕ) → i ≡ 0 + i
       plus_zero i = omega arith
 
-      held_with : blocks_held k.volume + length (holes (extents k.volume ino) first count) ≤ sum_by held_by kept.files.sizes
+      held_with : blocks_held v + length (holes (extents v ino) first count) ≤ sum_by held_by files.sizes
       held_with =
-          let size = stands.sizes.count in
-          subst (λ m. sum_by (blocks_of k.volume) (range_with_len 0 m) + length (holes (extents k.volume ino) first count) ≤ sum_by held_by kept.files.sizes) size
-          (sum_bound_less (blocks_of k.volume) held_by 0 kept.files.sizes ino (length (holes (extents k.volume ino) first count)) (omega (arith, there, size))
-          (subst (λ m. blocks_of k.volume m + length (holes (extents k.volume ino) first count) ≤ held_by (slice_index kept.files.sizes ino)) (plus_zero ino) (with_holes ino first count file there within))
-          (λ i below. subst (λ m. blocks_of k.volume m ≤ held_by (slice_index kept.files.sizes i)) (plus_zero i) (by_kind i (inode k.volume i).kind refl (omega (arith, below, size)))))
+          let size = are.count in
+          subst (λ m. sum_by (blocks_of v) (range_with_len 0 m) + length (holes (extents v ino) first count) ≤ sum_by held_by files.sizes) size
+          (sum_bound_less (blocks_of v) held_by 0 files.sizes ino (length (holes (extents v ino) first count)) (omega (arith, there, size))
+          (subst (λ m. blocks_of v m + length (holes (extents v ino) first count) ≤ held_by (slice_index files.sizes ino)) (plus_zero ino) (with_holes ino first count file there within))
+          (λ i below. subst (λ m. blocks_of v m ≤ held_by (slice_index files.sizes i)) (plus_zero i) (by_kind i (inode v i).kind refl (omega (arith, below, size)))))
 
   -- what all files hold leaves the reserve
-  pub leaves_the_reserve : HeldIsTheSum → sum_by held_by kept.files.sizes + reserve_for (data_blocks k.volume.geometry) ≤ data_blocks k.volume.geometry
-  leaves_the_reserve held =
-      let valid = (stands.flying.device.world (words_of k.cells) (IsImage-words_of k.cells)).valid in
-      let blocks = stands.flying.device.room.blocks in
-      let sum = held k.volume (live_claims k.volume kept.claims) (journaled (words_of k.cells)) stands.numbers s kept.files.sizes valid.stands stands.sizes in
-      subst (λ m. sum_by held_by kept.files.sizes + reserve_for m ≤ m) blocks (omega (arith, valid.fits, sum))
+  pub leaves_the_reserve : HeldIsTheSum → (live : List Draft) (f : Words) (numbers : List ℕ) (s : State) → LeavesReserve v live f numbers s files
+      → sum_by held_by files.sizes + reserve_for (data_blocks v.geometry) ≤ data_blocks v.geometry
+  leaves_the_reserve held live f numbers s leaves =
+      let sum = held v live f numbers s files.sizes leaves.stands leaves.sizes in
+      let fits = leaves.fits in
+      subst (λ m. sum_by held_by files.sizes + reserve_for m ≤ m) leaves.blocks (omega (arith, fits, sum))
+
+-- ---- where a World stands together, with nothing staged
+
+module _ (g : Geometry) (k : View) (t : Tables) (kept : Kept) (lines : Bool) (n : ℕ) (s : State) (stands : StandsAt g k t kept lines n s) where
+  pub in_files : kept.staging ≡ nothing_staged → FilesEnd k.volume kept.files → AreInFiles k.volume kept.files
+  in_files fresh ends = record {
+    whole = stands.order.whole;
+    count = stands.sizes.count;
+    chains = λ ino below. (has-chain k ino stands.order stands.unbatched below).counted;
+    canonical = λ ino below. (has-chain k ino stands.order stands.unbatched below).canonical;
+    lines = λ ino below. line_says ino below;
+    ends = ends;
+    staging = λ ino is. stands.agrees.empty ino is (empty_staging ino is);
+  } where
+    -- the line of an inode says how many extents it has
+    line_says : (ino : ℕ) → ino < length k.volume.inodes → length (extents k.volume ino) ≡ (inode k.volume ino).extents
+    line_says ino below =
+        let there : Stands k.volume.geometry k.volume k.cells = subst (λ u. Stands u.geometry u k.cells) (stands.order.settled stands.unbatched) stands.order.stands in
+        let reads = there.reads (words_of k.cells) (IsImage-words_of k.cells) in
+        (reads.chains ino (omega (arith, below, reads.inode_count))).map.counted
+
+    empty_staging : (x : ℕ) → IsStaging x → IsKeptEmpty kept.staging x
+    empty_staging x is = subst (λ st. IsKeptEmpty st x) (sym fresh) (zeros (x - 1) (omega (arith, is.most, is.least))) where
+      zeros : (i : ℕ) → i < 4 → slice_index nothing_staged.given i ≡ 0
+      zeros zero below = refl
+      zeros (suc zero) below = refl
+      zeros (suc (suc zero)) below = refl
+      zeros (suc (suc (suc zero))) below = refl
+      zeros (suc (suc (suc (suc i)))) below = absurd (omega (arith, below))
+
+  pub leaves_kept : LeavesReserve k.volume (live_claims k.volume kept.claims) (journaled (words_of k.cells)) stands.numbers s kept.files
+  leaves_kept = record {
+    stands = (stands.flying.device.world (words_of k.cells) (IsImage-words_of k.cells)).valid.stands;
+    sizes = stands.sizes;
+    fits = (stands.flying.device.world (words_of k.cells) (IsImage-words_of k.cells)).valid.fits;
+    blocks = stands.flying.device.room.blocks;
+  }

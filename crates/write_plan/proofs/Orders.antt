@@ -18,6 +18,8 @@ use Rattle.live_model.specs.staging_files.Keeps.{given_to, IsPlaced, IsStaged, S
 use Rattle.live_model.specs.world_model.Jobs.{live_claims}
 use Rattle.live_model.specs.world_model.Stands.{Consecutive, entries_of}
 use Rattle.write_plan.specs.Drafts.{draft_in, DraftsAreNext, order_behind}
+use Rattle.write_plan.specs.Shown.{DraftsAreNextShown}
+use Rattle.layout_model.specs.Journal.{journaled}
 use Rattle.eof_laws.specs.block_io.Overwrites.{blocks_reached}
 
 -- the order of the last run, and one
@@ -60,25 +62,26 @@ live_of v d file generation above staging =
     let theirs : ((inode v d.staging).generation == d.staging_generation) ≡ true = grind (arith, nat_tests, staging) in
     λ i. kind i && own i && order i && theirs i
 
-pub drafts_are_next : DraftsAreNext
-drafts_are_next g k t kept lines n s target len run stands few file has = record {
-  fields = in_range run.count (order_behind (inode k.volume target.ino).applied (runs_in kept.files target.ino)) (target.start / 4096) run.staging run.block (max target.size (target.start + len)) target.ino (inode k.volume target.ino).generation run.generation
+pub drafts_are_next_shown : DraftsAreNextShown
+drafts_are_next_shown v claims jobs f files staging numbers s count n target len run world overlays staged low few file has = record {
+  fields = in_range run.count (order_behind (inode v target.ino).applied (runs_in files target.ino)) (target.start / 4096) run.staging run.block (max target.size (target.start + len)) target.ino (inode v target.ino).generation run.generation
       (omega (arith, blocks.0, has.count_is)) (omega (arith, blocks.1, has.count_is)) (omega (arith, order_is)) (omega (arith, order_is, low, few)) (omega (arith, blocks.2, has.count_is))
-      placed.staging.least placed.staging.most (omega (arith, placed.inside, given_most kept.staging run.staging stands.staged placed.staging.least placed.staging.most)) (omega (arith, has.size, has.fits));
-  alive = live_of k.volume (draft_in k.volume kept.files target len run) file refl (omega (arith, order_is)) (sym has.generation);
+      placed.staging.least placed.staging.most (omega (arith, placed.inside, given_most staging run.staging staged placed.staging.least placed.staging.most)) (omega (arith, has.size, has.fits));
+  alive = live_of v (draft_in v files target len run) file refl (omega (arith, order_is)) (sym has.generation);
   order = order_is;
 } where
-  order_is : order_behind (inode k.volume target.ino).applied (runs_in kept.files target.ino) ≡ (inode k.volume target.ino).applied + length (entries_of target.ino (live_claims k.volume kept.claims)) + 1
+  order_is : order_behind (inode v target.ino).applied (runs_in files target.ino) ≡ (inode v target.ino).applied + length (entries_of target.ino (live_claims v claims)) + 1
   order_is =
-      ap (order_behind (inode k.volume target.ino).applied) (stands.flying.overlays target.ino file).runs_are
-      ∙ behind_entries (inode k.volume target.ino).applied (entries_of target.ino (live_claims k.volume kept.claims))
-      ((stands.flying.device.world (words_of k.cells) (IsImage-words_of k.cells)).valid.stands.log.orders target.ino)
+      ap (order_behind (inode v target.ino).applied) (overlays target.ino file).runs_are
+      ∙ behind_entries (inode v target.ino).applied (entries_of target.ino (live_claims v claims)) (world.valid.stands.log.orders target.ino)
 
-  low : (inode k.volume target.ino).applied + length (entries_of target.ino (live_claims k.volume kept.claims)) ≤ 2 ^ 62 + n
-  low = stands.low target.ino
-
-  placed : IsPlaced kept.staging run
-  placed = placed_of kept.staging run stands.staged has.out
+  placed : IsPlaced staging run
+  placed = placed_of staging run staged has.out
 
   blocks : (1 ≤ blocks_reached target.start len) × (blocks_reached target.start len ≤ 33) × (target.start / 4096 + blocks_reached target.start len ≤ 4096)
   blocks = few_staged target.start len has.some has.most has.fits
+
+pub drafts_are_next : DraftsAreNext
+drafts_are_next g k t kept lines n s target len run stands few file has =
+    drafts_are_next_shown k.volume kept.claims stands.jobs (journaled (words_of k.cells)) kept.files kept.staging stands.numbers s stands.count n target len run (stands.flying.device.world (words_of k.cells) (IsImage-words_of k.cells))
+    stands.flying.overlays stands.staged (stands.low target.ino) few file has

@@ -1,5 +1,5 @@
 -- The words of a write spell its file.
-use Rattle.std.proofs.Common.{◌≡◌, ◌≤◌, ◌<◌, ◌+◌, ◌-◌, ◌*◌, ◌/◌, ◌%◌, ◌^◌, ℕ, Bool, true, List, length, Option, None, Some, refl, arith, ap, ◌∙◌, sym, subst}
+use Rattle.std.proofs.Common.{◌≡◌, ◌<◌, ◌+◌, ◌-◌, ◌*◌, ◌/◌, ◌%◌, ◌^◌, ℕ, true, List, length, Option, None, Some, refl, arith, ap, ◌∙◌, sym, subst}
 use Rattle.std.specs.Prelude.{map}
 use Rattle.std.specs.List.{range_with_len}
 use Rattle.layout_model.specs.pm_model.Cells.{newest}
@@ -12,10 +12,8 @@ use Rattle.live_model.specs.data_route.declared.reads.Source.{Source}
 use Rattle.live_model.specs.data_route.declared.reads.Source.TheVariants.{Disk, Staged, Zero}
 use Rattle.layout_model.specs.Journal.{journaled}
 use Rattle.layout_model.specs.PlaceLaws.{behind_log-words}
-use Rattle.layout_model.specs.Places.{Geometry, is_data_block}
+use Rattle.layout_model.specs.Places.{is_data_block}
 use Rattle.layout_model.specs.declared.lines.Draft.{Draft}
-use Rattle.layout_model.specs.declared.lines.Kind.{Kind}
-use Rattle.layout_model.specs.declared.lines.Kind.TheVariants.{Directory, File, Free, Staging}
 use Rattle.live_model.specs.image_model.Content.{byte_in}
 use Rattle.live_model.specs.image_model.Rules.{file_blocks_of}
 use Rattle.live_model.specs.image_model.Volume.{extents, inode, Volume}
@@ -24,42 +22,36 @@ use Rattle.file_overlay.specs.extent_model.Extents.{disk_at}
 use Rattle.live_model.specs.volume_laws.ImageLaws.{journaled-idle}
 use Rattle.live_model.specs.volume_laws.LineWords.{data_word}
 use Rattle.live_model.specs.volume_laws.PoolLaws.{covered-in_data}
-use Rattle.live_model.specs.file_reads.Reads.{block_in, block_of, bytes_in, FileCanBeRead}
+use Rattle.live_model.specs.file_reads.Reads.{block_in, block_of, bytes_in}
 use Rattle.file_table.specs.Files.{runs_in, size_in}
 use Rattle.live_model.proofs.Readable.{flies_readable}
-use Rattle.live_model.specs.write_jobs.Blocks.{SpellWhole}
 use Rattle.live_model.proofs.write_jobs_proofs.Staged.{spells_whole}
 use Rattle.live_model.specs.k_split_model.View.{View}
 use Rattle.live_model.proofs.OverlaysOverlays.{reads_file}
-use Rattle.posix_tables.specs.declared.nodes.Node.{Node}
-use Rattle.posix_tables.specs.Bytes.{bytes_from, overwritten}
+use Rattle.posix_tables.specs.Bytes.{bytes_from}
 use Rattle.posix_tables.specs.Nodes.{bytes_of, node_at}
-use Rattle.posix_tables.specs.Open.{Tables}
 use Rattle.open_files.specs.posix_spec.State.{State}
 use Rattle.live_model.specs.world_model.TreeRules.{used_below}
 use Rattle.live_model.specs.world_model.Jobs.{live_claims, Valid}
-use Rattle.live_model.specs.world_model.Stands.{FileStands, IsSane, is_used, NodeStands, number}
+use Rattle.live_model.specs.world_model.Stands.{is_used, number}
 use Rattle.live_model.specs.write_jobs.Contents.{SpellBytes, staged_bytes}
-use Rattle.live_model.specs.Standing.{file_state, Kept, StandsAt}
+use Rattle.live_model.specs.Standing.{file_state}
 use Rattle.write_plan.proofs.Numbers.{file_node}
-use Rattle.write_plan.specs.Words.{old_in, staged_in, StagesTheFile, StandsReadable}
+use Rattle.file_table.specs.Files.{Files}
+use Rattle.live_model.specs.world_model.Jobs.{Job}
+use Rattle.write_plan.specs.Shown.{ShowsFile, StagesWhatIsShown}
+use Rattle.write_plan.specs.Words.{StagesTheFile, StandsReadable}
 
 pub stands_readable : StandsReadable
 stands_readable g k t kept lines n s ino stands file =
     flies_readable k.volume k.cells kept.claims stands.jobs (file_state kept.files) stands.numbers s stands.count ino stands.flying file
 
-module _ (g : Geometry) (k : View) (t : Tables) (kept : Kept) (lines : Bool) (n : ℕ) (s : State) (ino : ℕ) (stands : StandsAt g k t kept lines n s) (file : (inode k.volume ino).kind ≡ File) where
-  abbrev v : Volume
-  v = k.volume
-
+module _ (k : View) (v : Volume) (claims : List (ℕ × Draft)) (jobs : List Job) (files : Files) (numbers : List ℕ) (s : State) (count ino : ℕ) (shows : ShowsFile k v claims jobs files numbers s count ino) where
   abbrev w : Words
   w = words_of k.cells
 
-  valid : Valid v kept.claims stands.jobs (journaled w) stands.numbers s
-  valid = (stands.flying.device.world w (IsImage-words_of k.cells)).valid
-
-  readable : FileCanBeRead v k.cells (runs_in kept.files ino) ino
-  readable = stands_readable g k t kept lines n s ino stands file
+  valid : Valid v claims jobs (journaled w) numbers s
+  valid = shows.world.valid
 
   -- a block that a map gives is a data block
   in_data : (x b block : ℕ) → x < length v.inodes → disk_at (extents v x) block ≡ Some b → is_data_block v.geometry b ≡ true
@@ -67,19 +59,19 @@ module _ (g : Geometry) (k : View) (t : Tables) (kept : Kept) (lines : Bool) (n 
       covered-in_data v.geometry (file_blocks_of (inode v x).kind) (extents v x) b (valid.stands.sane.kept.in_data x (omega (arith, below, valid.stands.sane.inode_count)))
       (covers-disk_at (extents v x) block b at)
 
-  data_in : (block b : ℕ) → block_in v (runs_in kept.files ino) ino block ≡ Some b → is_data_block v.geometry b ≡ true
-  data_in block b is = by (source_of (runs_in kept.files ino) (extents v ino) block) refl is where
-    mapped : (c : ℕ) → source_of (runs_in kept.files ino) (extents v ino) block ≡ Disk c → disk_at (extents v ino) block ≡ Some c
-    mapped c same = by_parts (staged_at (runs_in kept.files ino) block) (disk_at (extents v ino) block) same where
+  data_in : (block b : ℕ) → block_in v (runs_in files ino) ino block ≡ Some b → is_data_block v.geometry b ≡ true
+  data_in block b is = by (source_of (runs_in files ino) (extents v ino) block) refl is where
+    mapped : (c : ℕ) → source_of (runs_in files ino) (extents v ino) block ≡ Disk c → disk_at (extents v ino) block ≡ Some c
+    mapped c same = by_parts (staged_at (runs_in files ino) block) (disk_at (extents v ino) block) same where
       by_parts : (o : Option (ℕ × ℕ)) (d : Option ℕ) → source_by o d ≡ Disk c → d ≡ Some c
       by_parts (Some place) d is_disk = cc
       by_parts None (Some x) is_disk = cc
       by_parts None None is_disk = cc
 
-    by : (source : Source) → source_of (runs_in kept.files ino) (extents v ino) block ≡ source → block_of v source ≡ Some b → is_data_block v.geometry b ≡ true
+    by : (source : Source) → source_of (runs_in files ino) (extents v ino) block ≡ source → block_of v source ≡ Some b → is_data_block v.geometry b ≡ true
     by (Disk c) same at =
-        in_data ino b block (used_below v ino (ap is_used file)) (mapped c same ∙ at)
-    by (Staged staging place) same at = in_data staging b place ((readable block).staged staging place same) at
+        in_data ino b block (used_below v ino (ap is_used shows.file)) (mapped c same ∙ at)
+    by (Staged staging place) same at = in_data staging b place ((shows.readable block).staged staging place same) at
     by Zero same at = cc
 
   -- a byte of a data block is the same as the journal shows it
@@ -88,25 +80,41 @@ module _ (g : Geometry) (k : View) (t : Tables) (kept : Kept) (lines : Bool) (n 
       let word : (4096 * b + i) / 8 ≡ 512 * b + i / 8 = omega arith in
       let behind = data_word v.geometry b (i / 8) of_data (omega (arith, within)) in
       ap (λ x. x / 256 ^ ((4096 * b + i) % 8) % 256)
-      (journaled-idle w ((4096 * b + i) / 8) (ap newest stands.flying.device.stands.idle) (behind_log-words v.geometry ((4096 * b + i) / 8) (omega (arith, word, behind))))
+      (journaled-idle w ((4096 * b + i) / 8) (ap newest shows.idle) (behind_log-words v.geometry ((4096 * b + i) / 8) (omega (arith, word, behind))))
 
-  same_byte : (i : ℕ) → byte_in (journaled w) (block_in v (runs_in kept.files ino) ino (i / 4096)) i ≡ byte_in w (block_in v (runs_in kept.files ino) ino (i / 4096)) i
-  same_byte i = by (block_in v (runs_in kept.files ino) ino (i / 4096)) refl where
-    by : (o : Option ℕ) → block_in v (runs_in kept.files ino) ino (i / 4096) ≡ o → byte_in (journaled w) o i ≡ byte_in w o i
+  same_byte : (i : ℕ) → byte_in (journaled w) (block_in v (runs_in files ino) ino (i / 4096)) i ≡ byte_in w (block_in v (runs_in files ino) ino (i / 4096)) i
+  same_byte i = by (block_in v (runs_in files ino) ino (i / 4096)) refl where
+    by : (o : Option ℕ) → block_in v (runs_in files ino) ino (i / 4096) ≡ o → byte_in (journaled w) o i ≡ byte_in w o i
     by None is = refl
     by (Some b) is = plain b (i % 4096) (data_in (i / 4096) b is) (omega arith)
 
   -- so what is read is of the file
-  pub read_of_file : (first count : ℕ) → bytes_from (bytes_of (node_at s.nodes (number stands.numbers ino))) first count ≡ bytes_in v w (runs_in kept.files ino) ino first (read_len (size_in kept.files ino) first count)
-  read_of_file first count =
-      reads_file v (live_claims v kept.claims) (journaled w) ino (size_in kept.files ino) (runs_in kept.files ino) (bytes_of (node_at s.nodes (number stands.numbers ino))) first count valid.stands.log
-      (stands.flying.overlays ino file)
-      (file_node v (live_claims v kept.claims) (journaled w) ino (inode v ino).kind (node_at s.nodes (number stands.numbers ino)) file (valid.stands.nodes.each ino (ap is_used file)))
-      ∙ (λ step. map (λ i. same_byte i step) (range_with_len first (read_len (size_in kept.files ino) first count)))
+  pub read_of_file : (first len : ℕ) → bytes_from (bytes_of (node_at s.nodes (number numbers ino))) first len ≡ bytes_in v w (runs_in files ino) ino first (read_len (size_in files ino) first len)
+  read_of_file first len =
+      reads_file v (live_claims v claims) (journaled w) ino (size_in files ino) (runs_in files ino) (bytes_of (node_at s.nodes (number numbers ino))) first len valid.stands.log
+      (shows.overlays ino shows.file)
+      (file_node v (live_claims v claims) (journaled w) ino (inode v ino).kind (node_at s.nodes (number numbers ino)) shows.file (valid.stands.nodes.each ino (ap is_used shows.file)))
+      ∙ (λ step. map (λ i. same_byte i step) (range_with_len first (read_len (size_in files ino) first len)))
+
+  -- by K-Split's maps, which are the same
+  pub old_of_file : (first len : ℕ) → bytes_from (bytes_of (node_at s.nodes (number numbers ino))) first len ≡ bytes_in k.volume w (runs_in files ino) ino first (read_len (size_in files ino) first len)
+  old_of_file first len =
+      read_of_file first len ∙ (λ i. bytes_in (record k.volume { maps = shows.maps i }) w (runs_in files ino) ino first (read_len (size_in files ino) first len))
+
+pub stages_what_is_shown : StagesWhatIsShown
+stages_what_is_shown k v claims jobs files numbers s count ino start new words draft shows first fits spell =
+    spells_whole draft words (bytes_of (node_at s.nodes (number numbers ino))) new start (omega (arith, first)) (omega (arith, first, fits)) (
+    subst (λ (b : ℕ). SpellBytes words (staged_bytes (bytes_from (bytes_of (node_at s.nodes (number numbers ino))) (4096 * b) (4096 * draft.count)) (start - 4096 * b) new draft.count)) (sym first)
+    (subst (λ (old : List ℕ). SpellBytes words (staged_bytes old (start - 4096 * (start / 4096)) new draft.count))
+    (sym (old_of_file k v claims jobs files numbers s count ino shows (4096 * (start / 4096)) (4096 * draft.count))) spell))
 
 pub stages_the_file : StagesTheFile
-stages_the_file g k t kept lines n s ino start new words draft stands file first fits spell =
-    spells_whole draft words (bytes_of (node_at s.nodes (number stands.numbers ino))) new start (omega (arith, first)) (omega (arith, first, fits)) (
-    subst (λ (b : ℕ). SpellBytes words (staged_bytes (bytes_from (bytes_of (node_at s.nodes (number stands.numbers ino))) (4096 * b) (4096 * draft.count)) (start - 4096 * b) new draft.count)) (sym first)
-    (subst (λ (old : List ℕ). SpellBytes words (staged_bytes old (start - 4096 * (start / 4096)) new draft.count))
-    (sym (read_of_file g k t kept lines n s ino stands file (4096 * (start / 4096)) (4096 * draft.count))) spell))
+stages_the_file g k t kept lines n s ino start new words draft stands file =
+    stages_what_is_shown k k.volume kept.claims stands.jobs kept.files stands.numbers s stands.count ino start new words draft (record {
+      file = file;
+      world = stands.flying.device.world (words_of k.cells) (IsImage-words_of k.cells);
+      overlays = stands.flying.overlays;
+      maps = refl;
+      readable = stands_readable g k t kept lines n s ino stands file;
+      idle = stands.flying.device.stands.idle;
+    })

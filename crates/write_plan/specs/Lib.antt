@@ -7,6 +7,7 @@ pub mod Words
 pub mod Parts
 pub mod FirstWritesLaws
 pub mod Plans
+pub mod Shown
 pub use Rattle.posix_tables.specs.block_counts
 pub use Rattle.open_files.specs.commute_laws
 pub use Rattle.open_files.specs.crash_spec

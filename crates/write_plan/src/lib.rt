@@ -10,6 +10,7 @@
 //! - `parts`: The part of a write that is staged.
 //! - `words`: What the blocks of a logged write are to hold.
 //! - `first_writes`: Room for the first write of a lap, and for the holes of its file.
+//! - `shown`: What a write rests on, of any volume by which the calls see the files.
 //!
 //! Stands on `block_counts`, `posix_types`, `posix_tables`, `open_files`, `file_table`,
 //! `layout_model`, `file_overlay`, `live_model`, `fsync_relink` and `eof_laws`.
@@ -21,6 +22,7 @@ mod first_writes;
 mod laws;
 mod parts;
 mod rows;
+mod shown;
 mod words;
 
 pub use asks::{
@@ -33,4 +35,8 @@ pub use drafts::{
 pub use first_writes::{the_first_holes_find_their_blocks, the_first_write_finds_its_blocks};
 pub use parts::staged_blocks_are_those_of_the_part;
 pub use rows::{room_by, the_rows_are_those_of_the_calls, truncate_row, write_row};
+pub use shown::{
+    entries_are_next_of_what_is_shown, first_blocks_of_what_is_shown_are_found,
+    own_bytes_are_those_in_place, words_spell_what_is_shown,
+};
 pub use words::{words_of_write, words_spell_the_file};

@@ -1,6 +1,5 @@
-use Rattle.k_split_laws.specs.Ends.{renames_over_file, tree_of_rename, tree_of_unlink}
+use Rattle.k_split_laws.specs.DeviceSteps.{renames_over_file, state_unlink, tree_of_rename, tree_of_unlink, unlinks_file}
 use Rattle.k_split_laws.specs.Sweeps.{leads_swept}
-use Rattle.k_split_laws.specs.Steps.{state_unlink, unlinks_file}
 use Rattle.k_split_laws.proofs.exits.a_second_step_ends_the_call.Goals as goal
 
 pub returns-clause-unlinked : goal.returns-clause-unlinked

@@ -1,6 +1,5 @@
-use Rattle.k_split_laws.specs.Cuts.{cuts_as_answer, steps_cut}
-use Rattle.k_split_laws.specs.Moves.{steps_rename}
-use Rattle.k_split_laws.specs.Steps.{steps_dropped, steps_mkdir, steps_opened, steps_rmdir, steps_unlinked}
+use Rattle.k_split_laws.specs.Cuts.{cuts_as_answer}
+use Rattle.k_split_laws.specs.DeviceSteps.{steps_cut, steps_dropped, steps_mkdir, steps_opened, steps_rename, steps_rmdir, steps_unlinked}
 use Rattle.k_split_laws.proofs.exits.changes_are_steps.Goals as goal
 
 pub returns-clause-mkdir : goal.returns-clause-mkdir

@@ -1,4 +1,4 @@
-use Rattle.k_split_laws.specs.Ends.{done_by_row, refused_by_row}
+use Rattle.k_split_laws.specs.DeviceSteps.{done_by_row, refused_by_row}
 use Rattle.k_split_laws.proofs.exits.replies_are_those_of_the_rows.Goals as goal
 
 pub returns-clause-refused : goal.returns-clause-refused

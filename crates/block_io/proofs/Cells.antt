@@ -1,10 +1,11 @@
--- The candidates of a cell through a flush and a fence.
-use Rattle.std.specs.Prelude.{◌≡◌, ◌⊎◌, ℕ, Bool, true, false, if◌then◌else◌}
-use Rattle.std.proofs.Common.{◌∙◌, ap, subst, sym, inl, inr}
+-- The candidates of a cell through a flush and a fence, and the step that a fence takes.
+use Rattle.std.specs.Prelude.{◌≡◌, ◌⊎◌, ◌<◌, ◌+◌, ℕ, Bool, true, false, Option, None, Some, if◌then◌else◌}
+use Rattle.std.proofs.Common.{◌∙◌, ap, arith, subst, sym, inl, inr}
 use Rattle.pm_lines.specs.pm_model.declared.Cell.{Cell}
 use Rattle.pm_lines.specs.pm_model.declared.Cell.TheVariants.{Single, Two, Marked, Lent}
 use Rattle.pm_lines.specs.pm_model.CellLaws.{candidate-fenced}
 use Rattle.pm_lines.specs.pm_model.Cells.{fenced, flushed, Settles}
+use Rattle.pm_lines.specs.pm_model.Powers.{is_left, is_on, stepped, Steps, Supply, taken_after}
 use Rattle.block_io.specs.Puts.{HoldsEither}
 
 either_flushed : (a t : ℕ) (c : Cell) → HoldsEither a t c → HoldsEither a t (flushed c)
@@ -39,3 +40,15 @@ settled false c d e same last = inl (last ∙ same)
 pub fence_done : (on : Bool) (t : ℕ) (c d : Cell) → on ≡ true → d ≡ (if on then fenced c else c) → fenced c ≡ Single t → d ≡ Single t
 fence_done true t c d is same last = same ∙ last
 fence_done false t c d is same last = cc
+
+-- ---- a step is taken where one is left
+
+taken_more : (given : Option ℕ) (taken n : ℕ) → is_left given taken ≡ true → given ≡ Some n → taken < taken_after given taken
+taken_more None taken n on is = cc
+taken_more (Some most) taken n on is = subst (λ (b : Bool). taken < (if b then taken + 1 else taken)) (sym on) (omega arith)
+
+-- behind steps that were taken before it
+pub took_last : (m n : ℕ) (p q r : Supply) → Steps m p q → Steps n q r → r ≡ stepped q → is_on r ≡ true → (given : ℕ) → p.given ≡ Some given → p.taken < r.taken
+took_last m n p q r first last one on given some =
+    let more : q.taken < r.taken = subst (λ (s : Supply). q.taken < s.taken) (sym one) (taken_more q.given q.taken given (last.on_before on) (first.given ∙ some)) in
+    omega (arith, first.later, more)

@@ -25,6 +25,7 @@ use Rattle.live_step_laws.specs.world_model.Jobs.{live_claims}
 use Rattle.live_step_laws.specs.world_model.Stands.{is_used, number}
 use Rattle.live_step_laws.specs.world_model.TreeRules.{used_below}
 use Rattle.live_step_laws.specs.world_step_laws.Parts.{FliesWith}
+use Rattle.k_split_laws.specs.k_journal.Commits.{TakesAStep}
 use Rattle.k_split_laws.specs.Left.{IsLeftOf}
 use Rattle.k_split_laws.proofs.Cuts.{left_through}
 use Rattle.posix_laws.proofs.ByteLaws.{index-overwritten}
@@ -272,6 +273,7 @@ pub record IsPutTo (k l : View) (files : Files) (ino at : ℕ) (bytes : List ℕ
   pub on : is_on new ≡ true
   pub steps : done < length bytes → Steps (577 * ((at + done) / 4096 - at / 4096)) old new
   pub all : Steps (577 * blocks_reached at (length bytes)) old new
+  pub took : 0 < done → TakesAStep old new
 
 module _ (k l : View) (files : Files) (ino at : ℕ) (bytes : List ℕ) (done count : ℕ) (can : CanPlace k files ino at bytes) (fits : done + count ≤ length bytes) (places : Places k l files ino at (take done bytes)) where
   abbrev piece : List ℕ
@@ -313,18 +315,20 @@ starts_to_put k files ino at bytes p on = record {
   on = on;
   steps = λ some. steps_more 0 (577 * ((at + 0) / 4096 - at / 4096)) p p (omega arith) (Steps-none p);
   all = steps_more 0 (577 * blocks_reached at (length bytes)) p p (omega arith) (Steps-none p);
+  took = λ some. absurd (omega (arith, some));
 }
 
 pub puts_on : (k l m : View) (files : Files) (ino at : ℕ) (bytes : List ℕ) (done count : ℕ) (old new last : Supply) → CanPlace k files ino at bytes → IsPutTo k l files ino at bytes done old new → done < length bytes → done + count ≤ length bytes
-    → (done + count < length bytes → (at + (done + count)) % 4096 ≡ 0) → Steps (577 * blocks_reached (at + done) count) new last → is_on last ≡ true → Places l m files ino (at + done) (take count (drop done bytes))
+    → (done + count < length bytes → (at + (done + count)) % 4096 ≡ 0) → Steps (577 * blocks_reached (at + done) count) new last → is_on last ≡ true → TakesAStep new last → Places l m files ino (at + done) (take count (drop done bytes))
     → IsPutTo k m files ino at bytes (done + count) old last
-puts_on k l m files ino at bytes done count old new last can to some fits ends stepped on next_is = record {
+puts_on k l m files ino at bytes done count old new last can to some fits ends stepped on one_more next_is = record {
   within = fits;
   places = came_further k l files ino at bytes done count can fits to.places m next_is;
   on = on;
   steps = λ more. steps_more (577 * ((at + done) / 4096 - at / 4096) + 577 * blocks_reached (at + done) count) (577 * ((at + (done + count)) / 4096 - at / 4096)) old last
       (let aligned = ends more in omega (arith, aligned)) both;
   all = steps_more (577 * ((at + done) / 4096 - at / 4096) + 577 * blocks_reached (at + done) count) (577 * blocks_reached at (length bytes)) old last (omega (arith, fits)) both;
+  took = λ any given is. (let more = one_more given (to.all.given ∙ is) in omega (arith, more, to.all.later));
 } where
   both : Steps (577 * ((at + done) / 4096 - at / 4096) + 577 * blocks_reached (at + done) count) old last
   both = Steps-then (577 * ((at + done) / 4096 - at / 4096)) (577 * blocks_reached (at + done) count) old new last (to.steps some) stepped

@@ -1,5 +1,6 @@
 //! Bytes of a file, written over in place.
 ghost use Rattle.std.specs.Prelude.{◌≡◌, ◌+◌, ◌*◌, ◌/◌, ◌%◌, ◌^◌, ◌<◌, ◌≤◌, ℕ, true, false, length, replicate, take, IsSome};
+ghost use Rattle.k_map_plans.specs.k_journal.Commits.{TakesAStep};
 ghost use Rattle.block_io.specs.Overwrites.{blocks_reached, MayOverwrite};
 ghost use Rattle.block_io.specs.pm_model.Powers.{is_on, Steps};
 ghost use Rattle.block_io.specs.extent_model.Extents.{disk_at};
@@ -51,6 +52,8 @@ impl KSplit {
         requires below { ino < length self.old.volume.inodes }
         requires may { MayOverwrite (extents self.old.volume ino) first (length bytes.now) self.old.cells }
         ensures steps { Steps (576 * blocks_reached first (length bytes.now) + 1) power.old power.new }
+        ensures took { is_on power.new ≡ true → 0 < length bytes.now
+            → TakesAStep power.old power.new }
         ensures paid { IsOverwritePaid power.new result }
         ensures answer { IsOverwriteAnswer ino first bytes.now self.old self.new result }
     {
@@ -75,7 +78,7 @@ impl KSplit {
     ///
     /// # Steps
     ///
-    /// At most 576 a block that the range reaches, and one more.
+    /// At most 576 a block that the range reaches, and one more; one at least, where it puts some byte.
     pub fn write_in_place(
         &mut self,
         ino: u32,
@@ -87,6 +90,8 @@ impl KSplit {
         requires may { self.old.lost ≡ false
             → MayWriteBytes self.old.volume ino offset (length bytes.now) }
         ensures steps { Steps (576 * blocks_reached offset (length bytes.now) + 1) power.old power.new }
+        ensures took { is_on power.new ≡ true → 0 < length bytes.now
+            → TakesAStep power.old power.new }
         ensures paid { IsOverwritePaid power.new result }
         ensures answer { IsOverwriteAnswer ino offset bytes.now self.old self.new result }
     {
@@ -144,7 +149,7 @@ impl KSplit {
     ///
     /// # Steps
     ///
-    /// At most 577.
+    /// At most 577; one at least, where it puts some byte.
     pub fn write_staged(
         &mut self,
         staging: u32,
@@ -158,6 +163,8 @@ impl KSplit {
         requires may { self.old.lost ≡ false
             → (b : ℕ) × MayLend self.old.volume self.old.cells staging block b }
         ensures steps { Steps 577 power.old power.new }
+        ensures took { is_on power.new ≡ true → 0 < length bytes.now
+            → TakesAStep power.old power.new }
         ensures paid { IsOverwritePaid power.new result }
         ensures answer { IsOverwriteAnswer staging (4096 * block + offset) bytes.now
             self.old self.new result }

@@ -1,5 +1,5 @@
 //! The log, and an append in its steps.
-ghost use Rattle.std.specs.Prelude.{◌≡◌, ◌≤◌, ◌<◌, ◌+◌, ◌^◌, length, if◌then◌else◌};
+ghost use Rattle.std.specs.Prelude.{◌≡◌, ◌≤◌, ◌<◌, ◌+◌, ◌^◌, ℕ, Some, true, length, if◌then◌else◌};
 ghost use Rattle.oplog_entry.specs.pm_model.Powers.{is_on, Steps};
 ghost use Rattle.oplog_entry.specs.declared.claims.Mark.TheVariants.{Lost, Written};
 ghost use Rattle.oplog_entry.specs.EntryLines.{entry_words, IsSingle};
@@ -69,11 +69,13 @@ impl RoundLog {
     }
 
     /// Stores the words of an entry into the line of a slot, each word of which has one candidate. Its sequence
-    /// number is the base plus the slot. At most 8 steps.
+    /// number is the base plus the slot. At most 8 steps, and where the power lasts one at least.
     pub fn store(&mut self, slot: u32, draft: &Draft, power: &mut Power)
         requires slot { slot < length self.old.lines }
         requires single { IsSingle (line_at self.old.lines slot).cells }
         ensures steps { Steps 8 power.old power.new }
+        ensures took { is_on power.new ≡ true → (given : ℕ) → power.old.given ≡ Some given
+            → power.old.taken < power.new.taken }
         ensures line { ChangesLine slot self.old self.new }
         ensures stored { HasStored (line_at self.old.lines slot).cells
             (entry_words draft.now (self.old.base + slot)) (is_on power.new)
@@ -84,11 +86,13 @@ impl RoundLog {
     }
 
     /// Makes the line of a slot durable, and says whether the power lasted: then it holds the entry that was
-    /// stored into it, whole. At most 2 steps.
+    /// stored into it, whole, and a step was taken. At most 2 steps.
     pub fn persist(&mut self, slot: u32, power: &mut Power) -> bool
         requires slot { slot < length self.old.lines }
         ensures on { result ≡ is_on power.new }
         ensures steps { Steps 2 power.old power.new }
+        ensures took { is_on power.new ≡ true → (given : ℕ) → power.old.given ≡ Some given
+            → power.old.taken < power.new.taken }
         ensures line { ChangesLine slot self.old self.new }
         ensures holds { Persists (if result then Written else Lost) (self.old.base + slot)
             (is_on power.old) (line_at self.old.lines slot).cells

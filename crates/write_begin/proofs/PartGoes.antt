@@ -1,5 +1,5 @@
 -- A write whose holes are filled goes on by its staged part.
-use Rattle.std.specs.Prelude.{◌≡◌, ◌≤◌, ◌<◌, ◌+◌, ◌-◌, ◌/◌, ◌%◌, ℕ, List, drop, length, Option, Result, Ok, Err}
+use Rattle.std.specs.Prelude.{◌≡◌, ◌≤◌, ◌<◌, ◌+◌, ◌-◌, ◌/◌, ◌%◌, ℕ, List, drop, length, None, Option, Result, Ok, Err}
 use Rattle.std.specs.declared.alloc.AllocError.{AllocError}
 use Rattle.std.proofs.Common.{arith, ap, ◌∙◌, sym, subst, inl, inr}
 use Rattle.std.proofs.lemmas.Bool.{cases_lt}
@@ -18,7 +18,7 @@ use Rattle.write_plan.specs.declared.asks.asking.Target.{Target}
 use Rattle.live_step_laws.specs.staging_files.Keeps.{Staged}
 use Rattle.in_place.specs.Holes.{IsPresent}
 use Rattle.write_begin.specs.declared.begins.beginning.WriteBegun.{WriteBegun}
-use Rattle.write_begin.specs.Goes.{FitsTarget, Goes, HasRoom, IsGone, reached_run}
+use Rattle.write_begin.specs.Goes.{FitsTarget, Goes, HasRoom, IsGone, PlacesTarget, reached_run}
 use Rattle.write_begin.specs.Rooms.{ArePresent}
 use Rattle.write_begin.proofs.PartPlans.{IsPart}
 use Rattle.write_begin.proofs.Plans.{some_run}
@@ -135,3 +135,15 @@ module _ (mode : Mode) (k : View) (staging : Staged) (files : Files) (who : Who)
     }
     through_part l new then run run_is (Ok WriteBegun.PowerLost) is = record { left = λ goes. is.left (goes_part goes); kept = λ goes. is.kept (goes_part goes) }
     through_part l new then run run_is (Err e) is = record { runs = is.runs; stands = λ goes. is.stands (goes_part goes) }
+
+-- a part is staged: it is not written in place
+pub not_written : (mode : Mode) (k l : View) (old new : Staged) (files then : Files) (who : Who) (target : Target) (x : List ℕ) (result : Result WriteBegun AllocError)
+    → IsGone mode k l old new files then who target x (reached_run target (length x)) result → result ≡ Ok WriteBegun.Written → ⊥
+not_written mode k l old new files then who target x result gone written =
+    let placed : PlacesTarget mode k l old new files then who target x (reached_run target (length x)) = subst (IsGone mode k l old new files then who target x (reached_run target (length x))) written gone in
+    let never : reached_run target (length x) ≡ None = placed.none in
+    cc
+
+-- nor is an end of memory
+pub no_memory : (e : AllocError) → (let result : Result WriteBegun AllocError = Err e in result ≡ Ok WriteBegun.Written) → ⊥
+no_memory e written = cc

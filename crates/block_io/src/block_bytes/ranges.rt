@@ -70,7 +70,7 @@ fn store_range(pm: &mut Pm, power: &mut Power, map: &ExtentMap, first: u64, byte
 /// Writes bytes of a file over in place, from byte `first` of it on, and makes them durable: in the
 /// disk blocks that its map names, each touched line flushed once, and one fence. It takes no
 /// memory; an empty write does nothing, and so does each without power at the call. It takes at most
-/// 576 steps a block that the range reaches, and one more.
+/// 576 steps a block that the range reaches, and one more; one that puts some byte takes one at least.
 ///
 /// Each block of the range has a disk block of the device, no two have the same, and each word of
 /// these has one candidate. A file has at most 16,777,216 bytes.
@@ -80,6 +80,8 @@ pub fn write_bytes(pm: &mut Pm, power: &mut Power, map: &ExtentMap, first: u64, 
     ensures size { length pm.new ≡ length pm.old }
     ensures lent { SameLent pm.old pm.new }
     ensures steps { Steps (576 * blocks_reached first (length bytes.now) + 1) power.old power.new }
+    ensures took { is_on power.new ≡ true → 0 < length bytes.now → (given : ℕ)
+        → power.old.given ≡ Some given → power.old.taken < power.new.taken }
     ensures off { is_on power.old ≡ false → (pm.new ≡ pm.old) × (power.new ≡ power.old) }
 
     // Wherever the power goes, each byte of the range is the old one or the new one in each image,

@@ -3,6 +3,7 @@ ghost use Rattle.std.specs.Prelude.{◌≡◌, ◌+◌, ◌*◌, ◌%◌, ◌<�
 ghost use Rattle.k_split_laws.specs.pm_model.Powers.{is_on, Steps};
 ghost use Rattle.live_step_laws.specs.block_counts.declared.TheConstants.{LONGEST_FILE};
 ghost use Rattle.in_place.specs.Gaps.{IsClearPaid};
+ghost use Rattle.k_split_laws.specs.k_journal.Commits.{TakesAStep};
 ghost use Rattle.k_split_laws.specs.block_io.Overwrites.{blocks_reached};
 ghost use Rattle.k_split_laws.specs.k_split.Bytes.{MayWriteBytes};
 ghost use Rattle.k_split_laws.specs.k_split.Loans.{MayLend};
@@ -46,6 +47,8 @@ fn put_staged(
     requires short { at % 4096 + length bytes.now ≤ 4096 }
     requires may { (b : ℕ) × MayLend k.old.volume k.old.cells staging block b }
     ensures steps { Steps 577 power.old power.new }
+    ensures took { is_on power.new ≡ true → 0 < length bytes.now
+        → TakesAStep power.old power.new }
     ensures paid { IsClearPaid power.new result }
     ensures answer { IsPieceAnswer staging (staged_place block at) bytes.now k.old k.new result }
 {
@@ -61,6 +64,8 @@ fn put_mapped(k: &mut KSplit, ino: u32, at: u64, bytes: &[u8], power: &mut Power
     requires on { k.old.lost ≡ false }
     requires may { MayWriteBytes k.old.volume ino at (length bytes.now) }
     ensures steps { Steps (576 * blocks_reached at (length bytes.now) + 1) power.old power.new }
+    ensures took { is_on power.new ≡ true → 0 < length bytes.now
+        → TakesAStep power.old power.new }
     ensures paid { IsClearPaid power.new result }
     ensures answer { IsPieceAnswer ino at bytes.now k.old k.new result }
 {
@@ -85,6 +90,7 @@ fn put_piece(
     requires some { 1 ≤ length bytes.now }
     requires one { IsOnePiece files.now ino at (length bytes.now) }
     ensures steps { Steps (577 * blocks_reached at (length bytes.now)) power.old power.new }
+    ensures took { is_on power.new ≡ true → TakesAStep power.old power.new }
     ensures paid { IsClearPaid power.new result }
     ensures answer { IsPlaceAnswer k.old k.new files.now ino at bytes.now result }
 {
@@ -103,7 +109,7 @@ fn put_piece(
 ///
 /// # Steps
 ///
-/// At most 577 for each block that the bytes reach.
+/// At most 577 for each block that the bytes reach; one at least, where there is some byte.
 pub fn put_in_place(
     k: &mut KSplit,
     files: &FileTable,
@@ -115,6 +121,8 @@ pub fn put_in_place(
     requires on { is_on power.old ≡ true }
     requires can { CanPlace k.old files.now ino at bytes.now }
     ensures steps { Steps (577 * blocks_reached at (length bytes.now)) power.old power.new }
+    ensures took { is_on power.new ≡ true → 0 < length bytes.now
+        → TakesAStep power.old power.new }
     ensures paid { IsClearPaid power.new result }
     ensures answer { IsPlaceAnswer k.old k.new files.now ino at bytes.now result }
 {

@@ -1,6 +1,7 @@
 //! A write begins.
-ghost use Rattle.std.specs.Prelude.{◌≡◌, ◌≢◌, ◌^◌, true};
+ghost use Rattle.std.specs.Prelude.{◌≡◌, ◌≢◌, ◌^◌, true, Ok};
 ghost use Rattle.write_plan.specs.pm_model.Powers.{is_on, Steps};
+ghost use Rattle.in_place.specs.k_split_laws.k_journal.Commits.{TakesAStep};
 ghost use Rattle.write_plan.specs.eof_laws.Ends.{FilesEnd};
 ghost use Rattle.write_plan.specs.AsksLaws.{call_of};
 ghost use Rattle.write_begin.specs.Begins.{Found, IsBegun, IsPaid};
@@ -47,7 +48,7 @@ pub enum WriteBegun {
 ///
 /// # Steps
 ///
-/// At most 2^21; in strict mode 2^16.
+/// At most 2^21; in strict mode 2^16. One at least where it is written in place.
 pub fn begin_write(
     alloc: Global,
     k: &mut KSplit,
@@ -71,6 +72,7 @@ pub fn begin_write(
     ensures steps { Steps (2 ^ 21) power.old power.new }
     ensures steps_strict { mode ≡ Mode.Strict → Steps (2 ^ 16) power.old power.new }
     ensures paid { IsPaid power.new result }
+    ensures took { result ≡ Ok WriteBegun.Written → TakesAStep power.old power.new }
     ensures keeps { is_on power.new ≡ true
         → KeepsMaps k.old.volume k.new.volume files.old files.new
         (filled_by mode tables.now.tables who handle) }

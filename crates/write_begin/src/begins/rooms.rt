@@ -3,6 +3,7 @@ ghost use Rattle.std.specs.Prelude.{◌≡◌, ◌≢◌, ◌+◌, ◌-◌, ◌/
 ghost use Rattle.block_counts.specs.Counts.{blocks_for};
 ghost use Rattle.block_counts.specs.declared.TheConstants.{LONGEST_FILE, LONGEST_WRITE};
 ghost use Rattle.write_plan.specs.pm_model.Powers.{is_on, Steps};
+ghost use Rattle.in_place.specs.k_split_laws.k_journal.Commits.{TakesAStep};
 ghost use Rattle.write_plan.specs.file_table.Files.{size_in, spare_in};
 ghost use Rattle.write_begin.specs.Begins.{IsPaid};
 ghost use Rattle.write_begin.specs.Goes.{filled_in, FitsTarget, Goes, GoesWhole, HasRoom, IsBareAtRest, IsGone, IsJobBegun, KeepsMaps, reached_run};
@@ -244,6 +245,7 @@ fn begin_filled(
         (plan_of mode target.size target.start (length bytes.now)).in_place }
     ensures steps { Steps (2 ^ 16) power.old power.new }
     ensures paid { IsPaid power.new result }
+    ensures took { result ≡ Ok WriteBegun.Written → TakesAStep power.old power.new }
     ensures keeps { is_on power.new ≡ true
         → KeepsMaps k.old.volume k.new.volume files.old files.new None }
     ensures gone { IsGone mode k.old k.new staging.old staging.new files.old files.new who target
@@ -292,6 +294,7 @@ pub(crate) fn begin_target(
     ensures steps { Steps (2 ^ 21) power.old power.new }
     ensures steps_strict { mode ≡ Mode.Strict → Steps (2 ^ 16) power.old power.new }
     ensures paid { IsPaid power.new result }
+    ensures took { result ≡ Ok WriteBegun.Written → TakesAStep power.old power.new }
     ensures keeps { is_on power.new ≡ true
         → KeepsMaps k.old.volume k.new.volume files.old files.new (filled_in mode target.ino) }
     ensures gone { IsTargetGone mode k.old k.new staging.old staging.new files.old files.new who

@@ -1,9 +1,12 @@
 use Rattle.std.proofs.Common.{Bool, cond, subst, sym}
 use Rattle.oplog_entry.specs.pm_model.Powers.{is_on}
 use Rattle.oplog_entry.specs.declared.claims.Mark.TheVariants.{Lost, Written}
-use Rattle.round_log.proofs.Storing.{persists}
+use Rattle.round_log.proofs.Storing.{persists, took_last}
 use Rattle.round_log.specs.Stores.{Persists}
 use Rattle.round_log.proofs.entries.persist_line.Goals as goal
+
+pub returns-clause-took : goal.returns-clause-took
+returns-clause-took c = took_last 1 1 c.args.power.now c.flush.new.power c.fence.new.power c.flush.ensures.steps c.fence.ensures.steps c.fence.ensures.power
 
 pub returns-clause-holds : goal.returns-clause-holds
 returns-clause-holds c seq =

@@ -5,7 +5,7 @@ use Rattle.oplog_entry.specs.pm_model.PowerLaws.{Steps-then}
 use Rattle.oplog_entry.specs.pm_model.Words.{word_at}
 use Rattle.oplog_entry.specs.EntryLines.{entry_words}
 use Rattle.oplog_entry.proofs.EntryWords.{IsStoring, stores_more}
-use Rattle.round_log.proofs.Storing.{stored_all}
+use Rattle.round_log.proofs.Storing.{stored_all, took_last}
 use Rattle.round_log.proofs.entries.store_entry.Goals as goal
 
 pub loop-word-preserved : goal.loop-word-preserved
@@ -17,7 +17,11 @@ loop-word-preserved c =
           c.loop-word.line.cells c.store_word.new.self.cells c.requires c.loop-word-test.true c.store_word.ensures.steps.on_before word inv.stores c.store_word.ensures.store;
       place = c.store_word.ensures.place ∙ inv.place;
       steps = Steps-then c.loop-word.word 1 c.args.power.now c.loop-word.power c.store_word.new.power inv.steps c.store_word.ensures.steps;
+      took = λ some. took_last c.loop-word.word 1 c.args.power.now c.loop-word.power c.store_word.new.power inv.steps c.store_word.ensures.steps c.store_word.ensures.power;
     }
+
+pub returns-clause-took : goal.returns-clause-took
+returns-clause-took c = c.loop-word.invariant.took (omega arith)
 
 pub returns-clause-stored : goal.returns-clause-stored
 returns-clause-stored c =

@@ -1,7 +1,8 @@
-use Rattle.std.proofs.Common.{◌≡◌, ◌∙◌, false, true, length, arith, inl, inr, sym}
+use Rattle.std.proofs.Common.{◌≡◌, ◌∙◌, ◌*◌, false, true, length, arith, inl, inr, sym}
 use Rattle.pm_lines.specs.pm_model.Cells.{cell}
 use Rattle.pm_lines.specs.pm_model.Powers.{is_on}
-use Rattle.block_io.proofs.Cells.{either_fenced, fence_done, settled}
+use Rattle.block_io.specs.Overwrites.{blocks_reached}
+use Rattle.block_io.proofs.Cells.{either_fenced, fence_done, settled, took_last}
 use Rattle.block_io.proofs.Overwriting.{beside_none, empty_overwritten, kept_single, none_overwritten, overwritten, overwritten_whole}
 use Rattle.block_io.proofs.block_bytes.ranges.write_bytes.Goals as goal
 
@@ -13,6 +14,17 @@ returns-then-not-on-clause-durable c on = elim c.then-not-on.either [
   | inl off ↦ let never : false ≡ true = sym off ∙ c.on.ensures ∙ on in absurd (cc)
   | inr both ↦ empty_overwritten c.args.map.now c.args.first c.args.bytes.now c.args.pm.now both.1
 ]
+
+pub returns-then-not-on-clause-took : goal.returns-then-not-on-clause-took
+returns-then-not-on-clause-took c on some = elim c.then-not-on.either [
+  | inl off ↦ let never : false ≡ true = sym off ∙ c.on.ensures ∙ on in absurd (cc)
+  | inr both ↦ absurd (omega (arith, both.1, some))
+]
+
+pub returns-clause-took : goal.returns-clause-took
+returns-clause-took c on some =
+    took_last (576 * blocks_reached c.args.first (length c.args.bytes.now)) 1 c.args.power.now c.store_range.new.power c.fence.new.power c.store_range.ensures.steps c.fence.ensures.steps
+    c.fence.ensures.power on
 
 pub returns-clause-each_image : goal.returns-clause-each_image
 returns-clause-each_image c =

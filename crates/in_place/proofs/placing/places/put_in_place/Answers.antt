@@ -1,4 +1,4 @@
-use Rattle.std.proofs.Common.{◌+◌, ◌*◌, ◌≤◌, List, arith, length, subst, sym}
+use Rattle.std.proofs.Common.{◌+◌, ◌*◌, ◌≤◌, List, arith, length, subst, sym, ◌≡◌, ◌∙◌, true, false}
 use Rattle.std.specs.Prelude.{ℕ}
 use Rattle.live_step_laws.specs.block_io.Overwrites.{blocks_reached}
 use Rattle.live_step_laws.specs.pm_model.Powers.{Steps}
@@ -47,7 +47,7 @@ loop-done-preserved c =
     let long = range_long bytes done count fits in
     puts_on k l c.put_piece.new.k files c.args.ino at bytes done count c.args.power.now c.loop-done.power c.put_piece.new.power c.requires.can c.loop-done.invariant (omega arith) fits
     (λ less. (let ends = c.piece_length-count.ensures.ends (omega (arith, less)) in omega (arith, ends)))
-    (subst (λ n. Steps (577 * blocks_reached (at + done) n) c.loop-done.power c.put_piece.new.power) long c.in-Done.ensures.steps) c.in-Done.ensures.paid
+    (subst (λ n. Steps (577 * blocks_reached (at + done) n) c.loop-done.power c.put_piece.new.power) long c.in-Done.ensures.steps) c.in-Done.ensures.paid (c.in-Done.ensures.took c.in-Done.ensures.paid)
     (subst (λ (bs : List ℕ). Places l c.put_piece.new.k files c.args.ino (at + done) bs) (range_is bytes done count) c.in-Done.ensures.answer)
 
 pub returns-in-PowerLost-clause-steps : goal.returns-in-PowerLost-clause-steps
@@ -83,8 +83,14 @@ returns-in-PowerLost-clause-answer c =
 pub returns-clause-steps : goal.returns-clause-steps
 returns-clause-steps c = c.loop-done.invariant.all
 
+pub returns-clause-took : goal.returns-clause-took
+returns-clause-took c on some = c.loop-done.invariant.took (omega (arith, some))
+
 pub returns-clause-paid : goal.returns-clause-paid
 returns-clause-paid c = c.loop-done.invariant.on
 
 pub returns-clause-answer : goal.returns-clause-answer
 returns-clause-answer c = all_put c.args.k.now c.loop-done.k c.args.files.now c.args.ino c.args.at c.args.bytes.now c.loop-done.done c.args.power.now c.loop-done.power c.loop-done.invariant (omega arith)
+
+pub returns-in-PowerLost-clause-took : goal.returns-in-PowerLost-clause-took
+returns-in-PowerLost-clause-took c on some = (let never : true ≡ false = sym on ∙ c.in-PowerLost.ensures.paid in cc)

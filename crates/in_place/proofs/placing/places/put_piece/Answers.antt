@@ -41,3 +41,9 @@ pub returns-in-None-clause-answer : goal.returns-in-None-clause-answer
 returns-in-None-clause-answer c =
     mapped_answer c.args.k.now c.args.files.now c.args.ino c.args.at c.args.bytes.now c.requires.can c.requires.some c.requires.one
     (ap (λ (runs : List Run). staged_at runs (c.args.at / 4096)) (sym c.overlay.ensures) ∙ sym c.in-None.ensures) c.put_mapped.new.k c.put_mapped.result c.put_mapped.ensures.answer
+
+pub returns-in-Some-clause-took : goal.returns-in-Some-clause-took
+returns-in-Some-clause-took c on = (let some = c.requires.some in c.put_staged.ensures.took on (omega (arith, some)))
+
+pub returns-in-None-clause-took : goal.returns-in-None-clause-took
+returns-in-None-clause-took c on = (let some = c.requires.some in c.put_mapped.ensures.took on (omega (arith, some)))

@@ -1,4 +1,4 @@
-use Rattle.std.proofs.Common.{◌≡◌, ◌<◌, ◌∙◌, ℕ, false, List, length, ap, inr, subst, sym}
+use Rattle.std.proofs.Common.{◌≡◌, ◌<◌, ◌∙◌, ℕ, false, List, length, ap, inr, subst, sym, true}
 use Rattle.block_io.specs.extent_model.declared.extent_words.Extent.{Extent}
 use Rattle.block_io.specs.Overwrites.{IsBesideBlocks, IsOverwritten, IsOverwrittenWhole, MayOverwrite}
 use Rattle.block_io.specs.image_model.Volume.{extents}
@@ -56,3 +56,9 @@ returns-clause-answer c =
     (overwrites k.tables.volume k.pm e c.args.ino c.args.first bytes ready.order.whole ready.order.stands below c.write_bytes.ensures.size c.write_bytes.ensures.lent
     (subst (λ (es : List Extent). Follows (IsOverwritten es c.args.first bytes) k.pm e) c.in-Some.ensures.map c.write_bytes.ensures.each_image)
     (subst (λ (es : List Extent). (i : ℕ) → IsBesideBlocks es c.args.first (length bytes) i → Settles (cell k.pm i) (cell e i)) c.in-Some.ensures.map c.write_bytes.ensures.others)))
+
+pub returns-then-on-clause-took : goal.returns-then-on-clause-took
+returns-then-on-clause-took c = c.write_bytes.ensures.took
+
+pub returns-clause-took : goal.returns-clause-took
+returns-clause-took c on some = (let never : true ≡ false = sym on ∙ (sym c.on.ensures ∙ c.if-on.false) in cc)

@@ -49,3 +49,12 @@ overwrite-requires-clause-may c =
     subst (λ (x : View). MayOverwrite (extents x.volume c.args.ino) c.args.offset count x.cells) c.self.view_is
     (may_overwrite k.tables.volume k.pm c.args.ino c.args.offset count order.whole order.stands below may.mapped
     (file_single k.tables.volume k.pm c.args.ino c.args.offset count order.whole order.stands below may.file order.unstaged))
+
+pub returns-then-not-on-clause-took : goal.returns-then-not-on-clause-took
+returns-then-not-on-clause-took c on some = (let never : true ≡ false = sym on ∙ (sym c.on.ensures ∙ c.if-not-on.true) in cc)
+
+pub returns-then-bytes-eq0-clause-took : goal.returns-then-bytes-eq0-clause-took
+returns-then-bytes-eq0-clause-took c on some = absurd (omega (arith, some))
+
+pub returns-clause-took : goal.returns-clause-took
+returns-clause-took c = c.overwrite.ensures.took

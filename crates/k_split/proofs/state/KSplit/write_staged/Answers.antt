@@ -37,3 +37,9 @@ overwrite-requires-clause-may c =
     (subst (λ (x : View). MayOverwrite (extents x.volume c.args.staging) (4096 * c.args.block + c.args.offset) (length c.args.bytes.now) x.cells) c.self.view_is
     (staged_overwrite k.tables.volume k.pm c.args.staging c.args.block may.0 (c.self.invariant is).order.whole (c.self.invariant is).order.stands may.1
     c.args.offset (length c.args.bytes.now) c.requires.short))
+
+pub returns-then-not-on-clause-took : goal.returns-then-not-on-clause-took
+returns-then-not-on-clause-took c on some = (let never : true ≡ false = sym on ∙ (sym c.on.ensures ∙ c.if-not-on.true) in cc)
+
+pub returns-clause-took : goal.returns-clause-took
+returns-clause-took c = c.overwrite.ensures.took

@@ -91,3 +91,12 @@ returns-in-Goes-clause-begun c =
     begun_by c.kept_numbers_are_those_of_the_state.ensures.sizes c.kept_numbers_are_those_of_the_state.ensures.room c.numbers_are_those_of_the_state.ensures.rows c.numbers_are_those_of_the_state.ensures.starts c.numbers_are_those_of_the_state.ensures.needs c.args.mode c.args.k.now c.args.tables.now.tables c.args.staging.now c.args.files.now c.args.who c.args.handle c.args.offset c.args.bytes.now c.args.needs asked.0 c.in-Goes.target asked.2 asked.1 c.requires.mode c.begin_target.new.k c.begin_target.new.staging c.begin_target.new.files c.begin_target.new.power c.begin_target.result c.begin_target.ensures.paid
     (subst (λ xs. IsTargetGone c.args.mode c.args.k.now c.begin_target.new.k c.args.staging.now c.begin_target.new.staging c.args.files.now c.begin_target.new.files c.args.who c.in-Goes.target xs (plan_of c.args.mode c.in-Goes.target.size c.in-Goes.target.start (length xs)) c.begin_target.new.power c.begin_target.result) (c.as_slice-new.ensures.value ∙ c.bytes.view_is)
     c.begin_target.ensures.gone)
+
+pub returns-in-Answered-clause-took : goal.returns-in-Answered-clause-took
+returns-in-Answered-clause-took c written = cc
+
+pub returns-in-Full-clause-took : goal.returns-in-Full-clause-took
+returns-in-Full-clause-took c written = cc
+
+pub returns-in-Goes-clause-took : goal.returns-in-Goes-clause-took
+returns-in-Goes-clause-took c = c.begin_target.ensures.took

@@ -7,7 +7,7 @@ use Rattle.write_plan.specs.k_split_model.View.{View}
 use Rattle.write_begin.specs.Goes.{FitsTarget, Goes, HasRoom, IsGone, KeepsMaps, reached_run}
 use Rattle.write_begin.specs.Rooms.{ArePresent}
 use Rattle.write_begin.proofs.Maps.{same_maps}
-use Rattle.write_begin.proofs.PartGoes.{behind, fits_part, goes_part, rest_long, room_part, staged_part, through_part}
+use Rattle.write_begin.proofs.PartGoes.{behind, fits_part, goes_part, not_written, rest_long, room_part, staged_part, through_part}
 use Rattle.write_begin.proofs.PartPlans.{all_placed, IsPart, part_is, reached_is}
 use Rattle.write_begin.proofs.Spared.{line_there}
 use Rattle.write_begin.proofs.Placing.{loses_target, may_place, places_target}
@@ -26,6 +26,9 @@ put_in_place-requires-clause-can c =
     let none : (plan_of c.args.mode c.args.target.size c.args.target.start (length c.args.bytes.now)).staged ≡ None = sym (ap (λ (p : WritePlan). p.staged) c.plan_write-plan.ensures) ∙ c.in-None.is in
     let all = all_placed c.args.mode c.args.target.size c.args.target.start (length c.args.bytes.now) c.requires.mode c.requires.target.some none in
     may_place c.args.mode c.args.k.now c.args.staging.now c.args.files.now c.args.who c.args.target c.args.bytes.now c.requires.goes c.requires.target all.below all.sync (subst (ArePresent c.args.k.now.volume c.args.files.now c.args.target.ino) all.placed c.requires.present)
+
+pub returns-in-Done-clause-took : goal.returns-in-Done-clause-took
+returns-in-Done-clause-took c written = (let some = c.requires.target.some in c.in-Done.ensures.took c.in-Done.ensures.paid (omega (arith, some)))
 
 pub returns-in-Done-clause-keeps : goal.returns-in-Done-clause-keeps
 returns-in-Done-clause-keeps c = λ on.
@@ -82,6 +85,10 @@ begin_staged-requires-clause-room c =
     let part = subst (IsPart c.args.mode c.args.target.size c.args.target.start (length c.args.bytes.now)) from_is (part_is c.args.mode c.args.target.size c.args.target.start (length c.args.bytes.now) (c.in-Some.first, c.in-Some.field-0-1) c.requires.mode c.requires.target.some plan) in
     subst (λ (bytes : List ℕ). HasRoom c.args.mode c.args.k.now.volume c.args.files.now (behind c.args.mode c.args.k.now c.args.staging.now c.args.files.now c.args.who c.args.target c.args.bytes.now c.max-start.result c.requires.target part) (length bytes)) (sym c.bytes_behind-rest.ensures) (room_part c.args.mode c.args.k.now c.args.staging.now c.args.files.now c.args.who c.args.target c.args.bytes.now c.max-start.result c.requires.target part c.args.k.now.volume c.requires.room)
 
+pub returns-in-Some-clause-took : goal.returns-in-Some-clause-took
+returns-in-Some-clause-took c written =
+    absurd (not_written c.args.mode c.args.k.now c.begin_staged.new.k c.args.staging.now c.begin_staged.new.staging c.args.files.now c.begin_staged.new.files c.args.who _ c.bytes_behind-rest.result.now c.begin_staged.result c.begin_staged.ensures.gone written)
+
 pub returns-in-Some-clause-gone : goal.returns-in-Some-clause-gone
 returns-in-Some-clause-gone c =
     let plan : (plan_of c.args.mode c.args.target.size c.args.target.start (length c.args.bytes.now)).staged ≡ Some (c.in-Some.first, c.in-Some.field-0-1) = sym (ap (λ (p : WritePlan). p.staged) c.plan_write-plan.ensures) ∙ c.in-Some.is in
@@ -94,3 +101,6 @@ returns-in-Some-clause-gone c =
     ∙ ap (λ n. (let run : Option (ℕ × ℕ) = Some (c.max-start.result / 4096, blocks_reached c.max-start.result n) in run)) (sym (rest_long c.args.mode c.args.k.now c.args.staging.now c.args.files.now c.args.who c.args.target c.args.bytes.now c.max-start.result c.requires.target part))) in
     through_part c.args.mode c.args.k.now c.args.staging.now c.args.files.now c.args.who c.args.target c.args.bytes.now c.max-start.result c.requires.target part c.requires.present c.begin_staged.new.k c.begin_staged.new.staging c.begin_staged.new.files (plan_of c.args.mode c.args.target.size c.args.target.start (length c.args.bytes.now)).staged run_is c.begin_staged.result
     (subst (λ (bytes : List ℕ). IsGone c.args.mode c.args.k.now c.begin_staged.new.k c.args.staging.now c.begin_staged.new.staging c.args.files.now c.begin_staged.new.files c.args.who (behind c.args.mode c.args.k.now c.args.staging.now c.args.files.now c.args.who c.args.target c.args.bytes.now c.max-start.result c.requires.target part) bytes (reached_run (behind c.args.mode c.args.k.now c.args.staging.now c.args.files.now c.args.who c.args.target c.args.bytes.now c.max-start.result c.requires.target part) (length bytes)) c.begin_staged.result) c.bytes_behind-rest.ensures c.begin_staged.ensures.gone)
+
+pub returns-in-PowerLost-clause-took : goal.returns-in-PowerLost-clause-took
+returns-in-PowerLost-clause-took c written = cc

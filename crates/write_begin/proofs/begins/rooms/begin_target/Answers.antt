@@ -1,4 +1,5 @@
 use Rattle.std.proofs.Common.{◌≡◌, ◌∙◌, ℕ, arith, true, false, Option, length, ap, refl, subst, sym, inl, inr}
+use Rattle.std.proofs.lemmas.Result.{err_from_is_err_and}
 use Rattle.data_route.specs.declared.writes.WritePlan.{WritePlan}
 use Rattle.data_route.specs.Writes.{plan_of}
 use Rattle.posix_types.specs.declared.call.Mode.{Mode}
@@ -8,6 +9,7 @@ use Rattle.write_begin.specs.Rooms.{FillsPart, LieWithin}
 use Rattle.write_begin.proofs.Fronts.{are_present, filled_maps, filled_on, has_runs, holes_fit, lacks_maps, part_maps, room_on}
 use Rattle.write_begin.proofs.Losses.{late_of}
 use Rattle.write_begin.proofs.Maps.{maps_then}
+use Rattle.write_begin.proofs.PartGoes.{no_memory}
 use Rattle.write_begin.proofs.PartPlans.{no_steps, places_within, strict_places_none, strict_spared}
 use Rattle.write_begin.proofs.Spared.{line_there}
 use Rattle.write_begin.proofs.Steps.{goes_then}
@@ -93,6 +95,12 @@ returns-in-Filled-clause-steps_strict c = λ strict.
     subst (λ (p : Supply). Steps 65536 p c.begin_filled.new.power)
     (strict_spared c.args.mode c.args.target.size c.args.target.start (length c.args.bytes.now) c.plan_write-plan.result c.args.power.now c.fill_front.new.power c.requires.target.some c.plan_write-plan.ensures c.in_ok-fill_front.ensures.spared strict) c.begin_filled.ensures.steps
 
+pub returns-in-Filled-clause-took : goal.returns-in-Filled-clause-took
+returns-in-Filled-clause-took c written given some =
+    let filled = c.in_ok-fill_front.ensures.steps in
+    let more = c.begin_filled.ensures.took written given (filled.given ∙ some) in
+    omega (arith, more, filled.later)
+
 pub returns-in-Filled-clause-keeps : goal.returns-in-Filled-clause-keeps
 returns-in-Filled-clause-keeps c = λ on.
     let answer = rw c.in-Filled.is at c.in_ok-fill_front.ensures.answer in
@@ -111,3 +119,12 @@ returns-in-Filled-clause-gone c =
       below = c.begin_filled.ensures.keeps;
       gone = c.begin_filled.ensures.gone;
     })
+
+pub returns-in_err-fill_front-clause-took : goal.returns-in_err-fill_front-clause-took
+returns-in_err-fill_front-clause-took c written = (let p = err_from_is_err_and c.from_residual.result c.from_residual.ensures.1 in absurd (no_memory p.0 (sym p.1 ∙ written)))
+
+pub returns-in-PowerLost-clause-took : goal.returns-in-PowerLost-clause-took
+returns-in-PowerLost-clause-took c written = cc
+
+pub returns-else-is_fresh-clause-took : goal.returns-else-is_fresh-clause-took
+returns-else-is_fresh-clause-took c written = cc

@@ -272,7 +272,8 @@ module _ (crashed : KeepsCrashed) (k : View) (t : Tables) (staging : Staged) (fi
   kept_home : (e : List Cell) → ComesHomeTo (lost_round w w.acts w.disk lines) e → AllHome e × KeepsPromise w.geometry e w.start w.history (calls_out w)
   kept_home e comes =
       subst (λ (g : Geometry). AllHome e × KeepsPromise g e w.start w.history (calls_out w)) gone.geometry
-      (crashed gone.volume w.disk.cells w.disk.cells e (kept_of w staging files) w.start w.history w.unfinished [] [] [] lines gone.at
+      (let is =
+      crashed gone.volume w.disk.cells w.disk.cells e (kept_of w staging files) w.start w.history w.unfinished [] [] [] lines gone.at
       (record {
         all = λ p at. absurd (subst (In p) none_out at);
         lent = λ loan i at. absurd at;
@@ -287,7 +288,8 @@ module _ (crashed : KeepsCrashed) (k : View) (t : Tables) (staging : Staged) (fi
           from = subst (λ (g : Geometry). log_line g 0 ≤ i / 8) gone.geometry at.from;
           below = subst (λ n. i / 8 < log_line w.geometry 0 + n) (sym holds.are.count) (subst (λ (g : Geometry). i / 8 < log_line g 0 + g.log) gone.geometry at.below);
         });
-      }))
+      })
+      in (is.home, is.promise))
 
   lost_before : IsLostHome (lost_round w w.acts w.disk lines)
   lost_before = record {

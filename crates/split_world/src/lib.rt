@@ -8,7 +8,7 @@
 //! legal and follows the scripts, each call answers what `step` answers (`IsBegun`, `IsFinished`); while the power
 //! is on all stands together in the state of the history (`IsGoing`); once it went, whatever is put back of lines
 //! and blocks leaves an image that the mode permits (`IsLost`), and a crash leaves a device that keeps the promise
-//! (`IsLeft`). In strict mode, or sync mode.
+//! (`IsLeft`), without the calls of jobs that cannot have acted too (`KeepsActed`). In strict mode, or sync mode.
 //!
 //! Stands on `world_begins` and `world_rounds`, which do the parts of its calls over all that it keeps
 //! (`world_parts`), and on `round_laws`: it begins on a device that `log_replay` mounts.

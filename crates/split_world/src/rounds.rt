@@ -2,7 +2,7 @@
 ghost use Rattle.std.specs.Prelude.{◌≡◌, ◌^◌, true, false, [], IfOk, OnErr};
 ghost use Rattle.round_laws.specs.pm_model.Powers.{Steps};
 ghost use Rattle.world_begins.specs.world_parts.Answers.{IsCheckpoint, IsEnded};
-ghost use Rattle.world_begins.specs.world_parts.world_view_laws.Losses.{MayCrash};
+ghost use Rattle.world_begins.specs.world_parts.world_view_laws.Losses.{KeepsActed, MayCrash};
 ghost use Rattle.world_begins.specs.world_parts.world_view_laws.Rounds.{IsLeft, IsRoundBegun, MayCheckpoint, MayUnmount};
 
 use crate::laws;
@@ -102,11 +102,13 @@ impl World {
 
     /// What a power loss now leaves, once lines and blocks are put back as they are. `out` and `filled` are together all
     /// jobs that are out, but for those that ended after the loss. The lines are the round's, as far as the claims and
-    /// these jobs came, or none where they are at home. It takes no memory.
+    /// these jobs came, or none where they are at home. The calls of jobs that cannot have acted need not be among those
+    /// that the device keeps the promise for. It takes no memory.
     pub fn crash(self, lines: Vec<Line>, out: Vec<Job>, filled: Vec<FilledJob>) -> Crashed
         requires usable { self.usable ≡ true }
         requires may { MayCrash self lines.items out.items filled.items }
-        ensures { IsLeft self result.pm result.history.items result.unfinished.items }
+        ensures left { IsLeft self result.pm result.history.items result.unfinished.items }
+        ensures acted { KeepsActed self lines.items filled.items result.pm }
     {
         let mut parts = self.parts;
         lose(&mut parts);

@@ -15,7 +15,7 @@ use Rattle.world_parts.specs.world_view_laws.Handed.{AreOneEach, handed, HaveOth
 use Rattle.world_parts.proofs.world_view_laws_proofs.Crashing.{loans_lent}
 use Rattle.world_parts.proofs.world_view_laws_proofs.Handing.{each_behind, each_front, home_more, home_one, in_behind, in_front, loans_filled_more, loans_out_more, other_places}
 use Rattle.world_parts.proofs.world_view_laws_proofs.Leaving.{crash_left, handed_apart, may_put, MayPutLines}
-use Rattle.world_parts.specs.world_view_laws.Losses.{MayCrash}
+use Rattle.world_parts.specs.world_view_laws.Losses.{KeepsActed, MayCrash}
 use Rattle.world_parts.specs.world_view_laws.Rounds.{IsLeft}
 use Rattle.world_parts.specs.world_view_laws.Begins.{IsFilledOut, IsJobOut}
 use Rattle.world_parts.specs.world_view_laws.Views.{calls_out, WorldView}
@@ -137,7 +137,7 @@ module _ (p : Parts) (kept : IsKept p) (off : p.lost ≡ true) (lines : List Par
       module _ (holds : (job : FilledView) → In job filled → HoldWords job.loans job.words) (e : List Cell) (size : length e ≡ length middle) where
         pub left_so : LinesComeBack (log_line p.geometry 0) (if p.lines_out then lines else p.home.items) middle e
             → ((i : ℕ) → IsInLines (log_line p.geometry 0) (length (if p.lines_out then lines else p.home.items)) i → is_lent (cell e i) ≡ false)
-            → IsLeft (seen p) e p.history.items (calls_out (seen p))
+            → IsLeft (seen p) e p.history.items (calls_out (seen p)) × KeepsActed (seen p) lines filled e
         left_so = crash_left p.k p.files.tables p.staging p.data (seen p) kept.world off lines out filled may middle all_home holds e size
 
       -- the lines that are put back, from this line on
@@ -155,7 +155,7 @@ module _ (p : Parts) (kept : IsKept p) (off : p.lost ≡ true) (lines : List Par
 
         -- WHAT IS LEFT
         pub left_now : ((job : FilledView) → In job filled → HoldWords job.loans job.words) → (e : List Cell) → length e ≡ length middle → LinesComeBack line back middle e
-            → ((i : ℕ) → IsInLines line (length back) i → is_lent (cell e i) ≡ false) → IsLeft (seen p) e p.history.items (calls_out (seen p))
+            → ((i : ℕ) → IsInLines line (length back) i → is_lent (cell e i) ≡ false) → IsLeft (seen p) e p.history.items (calls_out (seen p)) × KeepsActed (seen p) lines filled e
         left_now holds e size comes gone =
             let now =
             subst (λ (n : ℕ). LinesComeBack n (if p.lines_out then lines else p.home.items) middle e × ((i : ℕ) → IsInLines n (length (if p.lines_out then lines else p.home.items)) i → is_lent (cell e i) ≡ false)) line_is
@@ -202,3 +202,6 @@ module _ (w : WorldView) (lines : List Part) (out : List JobView) (filled : List
     home = is.home;
     promise = is.promise;
   }
+
+  pub acted_lost : (pm : List Cell) → KeepsActed lost lines filled pm → KeepsActed w lines filled pm
+  acted_lost pm keeps acts tells = keeps acts tells

@@ -1,5 +1,5 @@
 -- A crash: all that is out comes back, and what is left of the run.
-use Rattle.std.specs.Prelude.{◌≡◌, ◌⊎◌, ◌≤◌, ◌<◌, ◌+◌, ◌*◌, ◌/◌, ℕ, true, false, List, [], ◌∷◌, length, refl}
+use Rattle.std.specs.Prelude.{◌≡◌, ◌⊎◌, ◌≤◌, ◌<◌, ◌+◌, ◌*◌, ◌/◌, ◌++◌, ℕ, true, false, List, [], ◌∷◌, filter, length, map, refl}
 use Rattle.std.proofs.Common.{ap, ◌∙◌, sym, subst, inl, inr}
 use Rattle.eof_laws.specs.pm_model.declared.Cell.{Cell}
 use Rattle.eof_laws.specs.pm_model.Cells.{AllHome, cell, is_lent}
@@ -12,6 +12,7 @@ use Rattle.in_flight.specs.file_table.Files.{Files}
 use Rattle.in_flight.specs.k_split_model.View.{View}
 use Rattle.in_flight.specs.block_io.Lines.{LinesComeBack}
 use Rattle.eof_laws.specs.list_laws.Members.{In}
+use Rattle.eof_laws.specs.posix_spec.Run.{Unfinished}
 use Rattle.eof_laws.specs.posix_tables.Open.{Tables}
 use Rattle.in_flight.specs.Counts.{history_within}
 use Rattle.in_flight.specs.staging_files.Keeps.{Staged}
@@ -19,14 +20,15 @@ use Rattle.in_flight.specs.world_image_laws.Promised.{KeepsPromise}
 use Rattle.in_flight.specs.live_model.Standing.{JobOut}
 use Rattle.in_flight.specs.write_jobs.Jobs.{blocks_of, FilledView, HoldWords, JobView}
 use Rattle.write_end.specs.Blocks.{AreBlocksOut, ComeHome}
-use Rattle.write_end.specs.CrashesLaws.{AreHandedIn}
+use Rattle.write_end.specs.CrashesLaws.{AreHandedIn, IsCrashKept, LinesAreHome}
+use Rattle.write_end.specs.Ends.{begun_by}
 use Rattle.write_end.specs.Lines as crashed
 use Rattle.write_end.proofs.Crashed.{keeps_crashed}
 use Rattle.world_view_laws.specs.Handed.{handed, loans_filled, loans_out}
 use Rattle.world_view_laws.proofs.Handing.{in_behind, in_either, in_front}
 use Rattle.world_view_laws.specs.Begins.{IsFilledOut, IsJobOut}
 use Rattle.world_view_laws.specs.Lines.{AreCrashLines}
-use Rattle.world_view_laws.specs.Losses.{AreAllOut, MayCrash}
+use Rattle.world_view_laws.specs.Losses.{AreAllOut, calls_acted, KeepsActed, MayCrash}
 use Rattle.world_view_laws.specs.Rounds.{IsLeft}
 use Rattle.world_view_laws.specs.Views.{calls_out, first_by, IsLost, IsLostHome, IsLostOut, IsWorldOver, kept_of, state_of, WorldView}
 
@@ -138,31 +140,52 @@ module _ (k : View) (t : Tables) (staging : Staged) (files : Files) (w : WorldVi
   }
 
   -- with the log's lines out
-  pub crashed_out : w.lines_out ≡ true → LinesComeBack (log_line w.geometry 0) lines middle e → ((i : ℕ) → IsInLines (log_line w.geometry 0) (length lines) i → is_lent (cell e i) ≡ false) → IsLeft w e w.history (calls_out w)
-  crashed_out lines_out back lines_home =
-      left (size ∙ home.size ∙ gone.size)
-      (subst (λ (g : Geometry). AllHome e × KeepsPromise g e w.start w.history (calls_out w)) gone.geometry
-      (keeps_crashed gone.volume w.disk.cells middle e (kept_of w staging files) w.start w.history w.unfinished (handed out filled) filled (may.lines_are lines_out).0 lines gone.at
-      (handed_in w staging files out filled may.jobs holds)
-      (crash_lines gone.volume w filled (may.lines_are lines_out).0 lines gone.geometry gone.base (may.lines_are lines_out).1) home
-      (record {
-        back = subst (λ (g : Geometry). LinesComeBack (log_line g 0) lines middle e) (sym gone.geometry) back;
-        home = λ i at. lines_home i (record {
-          from = subst (λ (g : Geometry). log_line g 0 ≤ i / 8) gone.geometry at.from;
-          below = subst (λ n. i / 8 < log_line w.geometry 0 + n) (sym (may.lines_are lines_out).1.are.count) (subst (λ (g : Geometry). i / 8 < log_line g 0 + g.log) gone.geometry at.below);
-        });
-      }))) where
-        gone : IsLostOut staging files w
-        gone = subst (IsLost staging files w) lines_out (world.gone off)
+  module _ (lines_out : w.lines_out ≡ true) (back : LinesComeBack (log_line w.geometry 0) lines middle e) (lines_home : (i : ℕ) → IsInLines (log_line w.geometry 0) (length lines) i → is_lent (cell e i) ≡ false) where
+    gone : IsLostOut staging files w
+    gone = subst (IsLost staging files w) lines_out (world.gone off)
+
+    are_home : (taken : List (ℕ × Draft)) → AreCrashLines w filled taken lines → LinesAreHome gone.volume lines middle e
+    are_home taken crash = record {
+      back = subst (λ (g : Geometry). LinesComeBack (log_line g 0) lines middle e) (sym gone.geometry) back;
+      home = λ i at. lines_home i (record {
+        from = subst (λ (g : Geometry). log_line g 0 ≤ i / 8) gone.geometry at.from;
+        below = subst (λ n. i / 8 < log_line w.geometry 0 + n) (sym crash.are.count) (subst (λ (g : Geometry). i / 8 < log_line g 0 + g.log) gone.geometry at.below);
+      });
+    }
+
+    crash_kept : (taken : List (ℕ × Draft)) → AreCrashLines w filled taken lines → IsCrashKept gone.volume.geometry w.disk.cells e (kept_of w staging files) w.start w.history w.unfinished taken
+    crash_kept taken crash =
+        keeps_crashed gone.volume w.disk.cells middle e (kept_of w staging files) w.start w.history w.unfinished (handed out filled) filled taken lines gone.at
+        (handed_in w staging files out filled may.jobs holds) (crash_lines gone.volume w filled taken lines gone.geometry gone.base crash) home (are_home taken crash)
+
+    pub crashed_out : IsLeft w e w.history (calls_out w)
+    crashed_out =
+        left (size ∙ home.size ∙ gone.size)
+        (subst (λ (g : Geometry). AllHome e × KeepsPromise g e w.start w.history (calls_out w)) gone.geometry
+        (let is = crash_kept (may.lines_are lines_out).0 (may.lines_are lines_out).1 in (is.home, is.promise)))
+
+    pub acted_out : KeepsActed w lines filled e
+    acted_out acts tells =
+        let now = tells lines_out in
+        subst (λ (g : Geometry). KeepsPromise g e w.start w.history (calls_acted w acts)) gone.geometry ((crash_kept now.0 now.1).acted acts now.2)
 
   -- with them at home, where no job is out
-  pub crashed_home : w.lines_out ≡ false → LinesComeBack (log_line w.geometry 0) w.home middle e → ((i : ℕ) → IsInLines (log_line w.geometry 0) (length w.home) i → is_lent (cell e i) ≡ false) → IsLeft w e w.history (calls_out w)
-  crashed_home lines_home back words_home =
-      left (size ∙ home.size ∙ gone.size)
-      (gone.keeps e (record {
-        size = size ∙ home.size;
-        back = record { words = back.words; others = λ i beside. back.others i beside ∙ home.beside i (λ loan at. absurd (none_handed w out filled may.jobs gone.none loan at)) };
-        home = words_home;
-      })) where
-        gone : IsLostHome w
-        gone = subst (IsLost staging files w) lines_home (world.gone off)
+  module _ (lines_home : w.lines_out ≡ false) (back : LinesComeBack (log_line w.geometry 0) w.home middle e) (words_home : (i : ℕ) → IsInLines (log_line w.geometry 0) (length w.home) i → is_lent (cell e i) ≡ false) where
+    gone_home : IsLostHome w
+    gone_home = subst (IsLost staging files w) lines_home (world.gone off)
+
+    kept_home : AllHome e × KeepsPromise w.geometry e w.start w.history (calls_out w)
+    kept_home =
+        gone_home.keeps e (record {
+          size = size ∙ home.size;
+          back = record { words = back.words; others = λ i beside. back.others i beside ∙ home.beside i (λ loan at. absurd (none_handed w out filled may.jobs gone_home.none loan at)) };
+          home = words_home;
+        })
+
+    pub crashed_home : IsLeft w e w.history (calls_out w)
+    crashed_home = left (size ∙ home.size ∙ gone_home.size) kept_home
+
+    pub acted_home : KeepsActed w lines filled e
+    acted_home acts tells = subst (λ (calls : List Unfinished). KeepsPromise w.geometry e w.start w.history calls) same kept_home.1 where
+      same : calls_out w ≡ calls_acted w acts
+      same = ap (λ (ps : List JobOut). map begun_by ps ++ w.unfinished) gone_home.none ∙ sym (ap (λ (ps : List JobOut). map begun_by (filter acts ps) ++ w.unfinished) gone_home.none)

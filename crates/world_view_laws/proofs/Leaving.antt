@@ -25,9 +25,9 @@ use Rattle.write_end.proofs.Apart.{has_loans_apart}
 use Rattle.write_end.proofs.Jobs.{in_data_block, its_job, sane, staged_of, stood}
 use Rattle.in_flight.proofs.CountsCounts.{pairs}
 use Rattle.world_view_laws.specs.Handed.{AreOneEach, handed, HaveOtherPlaces, loans_filled, loans_out}
-use Rattle.world_view_laws.proofs.Crashing.{crashed_home, crashed_out, none_handed, of_filled, of_out, place_in}
+use Rattle.world_view_laws.proofs.Crashing.{acted_home, acted_out, crashed_home, crashed_out, none_handed, of_filled, of_out, place_in}
 use Rattle.world_view_laws.proofs.Handing.{each_apart, each_joined, in_behind, in_either}
-use Rattle.world_view_laws.specs.Losses.{AreAllOut, AreTwo, MayCrash}
+use Rattle.world_view_laws.specs.Losses.{AreAllOut, AreTwo, KeepsActed, MayCrash}
 use Rattle.world_view_laws.specs.Rounds.{IsLeft}
 use Rattle.world_view_laws.specs.Views.{calls_out, IsLost, IsLostOut, IsWorldOver, kept_of, WorldView}
 
@@ -189,12 +189,23 @@ module _ (k : View) (t : Tables) (staging : Staged) (files : Files) (w : WorldVi
     may_put = put_by w.lines_out refl (world.gone off)
 
     module _ (holds : (job : FilledView) → In job filled → HoldWords job.loans job.words) (e : List Cell) (size : length e ≡ length middle) where
-      left_by : (b : Bool) → w.lines_out ≡ b → LinesComeBack (log_line w.geometry 0) (if b then lines else w.home) middle e
-          → ((i : ℕ) → IsInLines (log_line w.geometry 0) (length (if b then lines else w.home)) i → is_lent (cell e i) ≡ false) → IsLeft w e w.history (calls_out w)
-      left_by true out_now back lines_home = crashed_out k t staging files w world off lines out filled may holds middle e home size out_now back lines_home
-      left_by false out_now back lines_home = crashed_home k t staging files w world off lines out filled may holds middle e home size out_now back lines_home
+      -- the lines that are put back come back, and no word of them is lent any more
+      abbrev ComeBack : Bool → Type 0
+      ComeBack b =
+          LinesComeBack (log_line w.geometry 0) (if b then lines else w.home) middle e
+          × ((i : ℕ) → IsInLines (log_line w.geometry 0) (length (if b then lines else w.home)) i → is_lent (cell e i) ≡ false)
+
+      left_by : (b : Bool) → w.lines_out ≡ b → ComeBack b → IsLeft w e w.history (calls_out w) × KeepsActed w lines filled e
+      left_by true out_now back = (
+        crashed_out k t staging files w world off lines out filled may holds middle e home size out_now back.0 back.1,
+        acted_out k t staging files w world off lines out filled may holds middle e home size out_now back.0 back.1,
+      )
+      left_by false out_now back = (
+        crashed_home k t staging files w world off lines out filled may holds middle e home size out_now back.0 back.1,
+        acted_home k t staging files w world off lines out filled may holds middle e home size out_now back.0 back.1,
+      )
 
       -- WHAT IS LEFT
       pub crash_left : LinesComeBack (log_line w.geometry 0) (if w.lines_out then lines else w.home) middle e
-          → ((i : ℕ) → IsInLines (log_line w.geometry 0) (length (if w.lines_out then lines else w.home)) i → is_lent (cell e i) ≡ false) → IsLeft w e w.history (calls_out w)
-      crash_left back lines_home = left_by w.lines_out refl back lines_home
+          → ((i : ℕ) → IsInLines (log_line w.geometry 0) (length (if w.lines_out then lines else w.home)) i → is_lent (cell e i) ≡ false) → IsLeft w e w.history (calls_out w) × KeepsActed w lines filled e
+      crash_left back lines_home = left_by w.lines_out refl (back, lines_home)

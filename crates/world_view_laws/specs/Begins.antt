@@ -24,6 +24,7 @@ use Rattle.in_flight.specs.posix_spec.Put.{put_by}
 use Rattle.in_flight.specs.posix_spec.Run.{after_call}
 use Rattle.in_flight.specs.posix_spec.State.{room}
 use Rattle.in_flight.specs.posix_spec.Step.{step}
+use Rattle.in_flight.specs.posix_spec.Tree.{tree}
 use Rattle.in_flight.specs.crash_spec.Busy.{is_busy, is_logged}
 use Rattle.in_flight.specs.Busy.{IsKeeping}
 use Rattle.in_flight.specs.Histories.{item_with}
@@ -189,8 +190,8 @@ pub record IsInPlace (w : WorldView) (who : Who) (call : Call) (disk : Disk) : T
   pub cells : disk ≡ record middle { cells = disk.cells; tables = disk.tables }
 
 -- IT RETURNED: it is not logged, the jobs that are out left what it needs, its holes could be filled, and its item stands at the end of the
--- history. Outside POSIX mode nothing was staged for it, and what it writes in place lies where it lay. It made, removed or moved no name, or
--- took a step.
+-- history. Outside POSIX mode nothing was staged for it, and what it writes in place lies where it lay. It left the tree as it is, or took a
+-- step.
 pub record Returns (who : Who) (old new : WorldView) (before after : Supply) : Type 0 where
   pub call : Call
   pub begins : Begins old who call
@@ -204,7 +205,7 @@ pub record Returns (who : Who) (old new : WorldView) (before after : Supply) : T
   pub in_place : old.start.mode ≢ Mode.Posix → (range : ℕ × ℕ) → placed_at (state_of old) (put_by (state_of old) who call) ≡ Some range → IsInPlace old who call new.disk
   pub stay : OthersStay old new who
   pub on : is_on after ≡ true
-  pub spent : ((after_call (state_of old) (who, call)).entries ≡ (state_of old).entries) ⊎ TakesAStep before after
+  pub spent : (tree (after_call (state_of old) (who, call)) ≡ tree (state_of old)) ⊎ TakesAStep before after
 
 -- the entry is of the blocks of its plan, and of no other
 abbrev pub IsOfPlan : Option (ℕ × ℕ) → Draft → Type 0

@@ -1,6 +1,6 @@
 -- All that was out is handed in and put back: the device keeps the promise.
 use Rattle.std.proofs.Common.{◌≡◌, ◌≢◌, ◌⊎◌, ◌<◌, ◌+◌, ◌++◌, ◌*◌, ◌-◌, ◌/◌, ◌%◌, ◌∷◌, [], ◌==◌, ℕ, zero, suc, Bool, true, false, cond, List, length, Option, Some, None, refl, arith, ap, ◌∙◌, sym, subst, inl, inr}
-use Rattle.std.specs.Prelude.{if◌then◌else◌, map, slice_index}
+use Rattle.std.specs.Prelude.{filter, if◌then◌else◌, map, slice_index}
 use Rattle.std.proofs.lemmas.Bool.{both_ways, cases_eq, cases_lt, eq-eqb, ne_eqb}
 use Rattle.std.proofs.lemmas.Option.{same_Some}
 use Rattle.oplog_entry.specs.pm_model.declared.Cell.{Cell}
@@ -24,7 +24,7 @@ use Rattle.in_place.specs.k_split_laws.volume_laws.ImageLaws.{journaled-other}
 use Rattle.in_place.specs.k_split_laws.volume_laws.LineWords.{data_word}
 use Rattle.write_jobs.specs.world_image_laws.Images.{StandsFor}
 use Rattle.write_jobs.specs.world_image_laws.Promised.{IsKept, KeepsPromise}
-use Rattle.write_jobs.specs.world_image_laws.Back.{IsPutBack}
+use Rattle.write_jobs.specs.world_image_laws.Back.{calls_in_log, IsPutBack}
 use Rattle.write_jobs.specs.world_image_laws.InLog.{kept_of_all}
 use Rattle.write_jobs.specs.world_image_laws.Running.{promise_now}
 use Rattle.write_plan.specs.eof_laws.log_checkpoint.world_model.Lines.{AreJobLines, AreLinesOut, IsJobLine, IsTaken}
@@ -36,9 +36,10 @@ use Rattle.write_end.proofs.LosingPending.{IsJobOf, loans_of_entry, places_of_en
 use Rattle.write_end.specs.Ends.{begun_by, IsOut}
 use Rattle.write_jobs.specs.Jobs.{FilledView, loan_at}
 use Rattle.write_end.specs.Blocks.{AreBlocksOut, ComeHome}
-use Rattle.write_end.specs.CrashesLaws.{AreHandedIn, KeepsCrashed, KeepsHome, LinesAreHome}
+use Rattle.write_end.specs.CrashesLaws.{AreHandedIn, KeepsCrashed, KeepsHome, LinesAreHome, MissesNone}
 use Rattle.write_end.specs.Lines.{AreCrashLines}
 use Rattle.write_end.specs.Lost.{HoldLost, IsLostJob, IsLostWith}
+use Rattle.write_end.proofs.Acted.{HoldsOfSlots, kept_of_acted}
 use Rattle.write_end.proofs.Ended.{holds_spelled, single_word, spells_job}
 use Rattle.write_end.proofs.Going.{calls_are}
 use Rattle.write_end.proofs.Jobs.{block_of, in_data_block, its_job, lent_any, no_slot, pending_of, same_job, sane, stood}
@@ -365,16 +366,39 @@ module _ (v : Volume) (d middle e : List Cell) (kept : Kept) (start : State) (hi
       filled = are_filled lost.jobs (λ j is. is);
     }
 
+    -- with the calls of the jobs that have a slot
+    in_log_kept : IsHonest v.geometry (cell e) image → IsKept v.geometry start history (calls_in_log (map slot_of lost.jobs) lost.jobs ++ last) image
+    in_log_kept honest =
+        lost.promise (cell e) (map slot_of lost.jobs) image (put_back_now honest) (subst (λ c. HoldLost v c lost.jobs (map slot_of lost.jobs) lost.slot_of) (sym is_back) (hold_lost lost.jobs (λ j is. is)))
+
     pub keeps_image : IsHonest v.geometry (cell e) image → IsKept v.geometry start history (map begun_by kept.pending ++ last) image
     keeps_image honest =
         subst (λ (calls : List Unfinished). IsKept v.geometry start history (calls ++ last) image) (calls_are kept.pending lost.jobs lost.jobs_are)
-        (kept_of_all v.geometry start history (map slot_of lost.jobs) lost.jobs last image lost.mode (lost.promise (cell e) (map slot_of lost.jobs) image (put_back_now honest) (subst (λ c. HoldLost v c lost.jobs (map slot_of lost.jobs) lost.slot_of) (sym is_back) (hold_lost lost.jobs (λ j is. is)))))
+        (kept_of_all v.geometry start history (map slot_of lost.jobs) lost.jobs last image lost.mode (in_log_kept honest))
+
+    -- or with those of the jobs that a test tells, which misses none that may have acted
+    module _ (acts : JobOut → Bool) (misses : MissesNone kept.pending d taken acts) where
+      holds_of_slots : HoldsOfSlots acts slot_of kept.pending lost.jobs
+      holds_of_slots p j slot at there same some = by (acts p) refl where
+        fails : acts p ≡ false → lost.slot_of j.draft.ino ≡ Some slot → ⊥
+        fails own had = (let none = no_slot v d kept start history last lost p j at there same (misses.lent p at own) in cc (none, had))
+
+        by : (b : Bool) → acts p ≡ b → b ≡ true
+        by true own = refl
+        by false own = elim (claims_of j slot there some) [
+          | inl had ↦ absurd (fails own had)
+          | inr is ↦ absurd (misses.none p slot at own (subst (λ (x : Draft). In (slot, x) taken) same is.0))
+        ]
+
+      pub keeps_acted : IsHonest v.geometry (cell e) image → IsKept v.geometry start history (map begun_by (filter acts kept.pending) ++ last) image
+      keeps_acted honest = kept_of_acted v.geometry start history acts slot_of kept.pending lost.jobs last image lost.mode lost.jobs_are holds_of_slots (in_log_kept honest)
 
 pub keeps_crashed : KeepsCrashed
-keeps_crashed v d middle e kept start history last loans filled taken lines lost handed crash comes home = (
-  all_home v d middle e kept start history last loans filled taken lines lost handed crash comes home,
-  λ image is honest. keeps_image v d middle e kept start history last loans filled taken lines lost handed crash comes home image is honest,
-)
+keeps_crashed v d middle e kept start history last loans filled taken lines lost handed crash comes home = record {
+  home = all_home v d middle e kept start history last loans filled taken lines lost handed crash comes home;
+  promise = λ image is honest. keeps_image v d middle e kept start history last loans filled taken lines lost handed crash comes home image is honest;
+  acted = λ acts misses image is honest. keeps_acted v d middle e kept start history last loans filled taken lines lost handed crash comes home image is acts misses honest;
+}
 
 -- ---- with the lines at home
 

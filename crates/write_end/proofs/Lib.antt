@@ -17,6 +17,7 @@ pub mod Homes
 pub mod Stopped
 pub mod Apart
 pub mod LogLines
+mod Acted
 pub mod Crashed
 pub use Rattle.in_place.proofs.k_split_laws_proofs.k_split_proofs
 pub use Rattle.write_jobs.proofs as write_jobs_proofs

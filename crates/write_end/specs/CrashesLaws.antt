@@ -1,5 +1,5 @@
 -- What a crash leaves of a World that lost its power, each law as one statement.
-use Rattle.std.specs.Prelude.{◌≡◌, ◌⊎◌, ◌/◌, ◌++◌, ℕ, true, false, List, [], map}
+use Rattle.std.specs.Prelude.{◌≡◌, ◌⊎◌, ◌/◌, ◌++◌, ℕ, Bool, true, false, List, [], filter, map}
 use Rattle.oplog_entry.specs.pm_model.declared.Cell.{Cell}
 use Rattle.oplog_entry.specs.pm_model.Cells.{AllHome, cell, is_lent}
 use Rattle.oplog_entry.specs.pm_model.Parts.{Part, put_back}
@@ -20,7 +20,7 @@ use Rattle.write_plan.specs.eof_laws.log_checkpoint.world_model.Lines.{AreLinesO
 use Rattle.live_model.specs.Standing.{AreLinesLent, Kept, JobOut, StandsAt}
 use Rattle.write_end.specs.Ends.{begun_by, IsOut}
 use Rattle.write_jobs.specs.Jobs.{FilledView, HoldWords}
-use Rattle.write_end.specs.Blocks.{AreBlocksHome, ComeHome}
+use Rattle.write_end.specs.Blocks.{AreBlocksHome, AreBlocksOut, ComeHome}
 use Rattle.write_end.specs.Lines.{AreCrashLines}
 use Rattle.write_end.specs.Lost.{IsLostWith}
 use Rattle.write_end.specs.LosingLaws.{AreSpelled}
@@ -39,14 +39,25 @@ pub record LinesAreHome (v : Volume) (lines : List Part) (d e : List Cell) : Typ
   pub back : LinesComeBack (log_line v.geometry 0) lines d e
   pub home : (i : ℕ) → IsLogWord v i → is_lent (cell e i) ≡ false
 
--- A CRASH: the loans come home, and then the lines, of which some filled jobs claimed some. Nothing is lent any more, and the device keeps
--- the promise for the calls that returned and the unfinished ones.
+-- A TEST OF THE JOBS MISSES NONE that may have acted: each for which it fails is out still, with its blocks lent, and none of these
+-- entries is its own.
+pub record MissesNone (pending : List JobOut) (d : List Cell) (taken : List (ℕ × Draft)) (acts : JobOut → Bool) : Type 0 where
+  pub lent : (p : JobOut) → In p pending → acts p ≡ false → AreBlocksOut p.blocks d
+  pub none : (p : JobOut) (slot : ℕ) → In p pending → acts p ≡ false → ¬ In (slot, p.draft) taken
+
+-- WHAT A CRASH LEAVES of the device: nothing is lent any more, and it keeps the promise for the calls that returned and the unfinished ones;
+-- of these those of jobs may be left out that cannot have acted, by the entries that jobs claimed slots for.
+pub record IsCrashKept (g : Geometry) (d e : List Cell) (kept : Kept) (start : State) (history : List Item) (last : List Unfinished) (taken : List (ℕ × Draft)) : Type 0 where
+  pub home : AllHome e
+  pub promise : KeepsPromise g e start history (map begun_by kept.pending ++ last)
+  pub acted : (acts : JobOut → Bool) → MissesNone kept.pending d taken acts → KeepsPromise g e start history (map begun_by (filter acts kept.pending) ++ last)
+
+-- A CRASH: the loans come home, and then the lines, of which some filled jobs claimed some.
 abbrev pub KeepsCrashed : Type 0
 KeepsCrashed =
     (v : Volume) (d middle e : List Cell) (kept : Kept) (start : State) (history : List Item) (last : List Unfinished) (loans : List Part) (filled : List FilledView) (taken : List (ℕ × Draft)) (lines : List Part)
     → IsLostWith v d kept start history last → AreHandedIn d kept (run start history) loans filled → AreCrashLines v.geometry v.base kept.first kept.claims filled taken lines
-    → ComeHome loans d middle → LinesAreHome v lines middle e
-    → AllHome e × KeepsPromise v.geometry e start history (map begun_by kept.pending ++ last)
+    → ComeHome loans d middle → LinesAreHome v lines middle e → IsCrashKept v.geometry d e kept start history last taken
 
 -- With the lines at home, and the power on still, the device keeps it with nothing unfinished.
 abbrev pub KeepsHome : Type 0

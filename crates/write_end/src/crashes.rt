@@ -2,7 +2,7 @@
 //!
 //! When all that is out of a World is handed in, in whatever order, and put back, nothing is lent any more. The
 //! layer above may rely on this: the device then keeps the promise for the calls that returned and those that did
-//! not (`KeepsCrashed`); with log lines at home it does so at any moment (`KeepsHome`); and lines that hold the
+//! not, of which the calls of jobs that cannot have acted may be left out (`KeepsCrashed`); with log lines at home it does so at any moment (`KeepsHome`); and lines that hold the
 //! claims of a lap are those of a lap without jobs (`LinesHoldOut`).
 //!
 //! Lemmas alone.

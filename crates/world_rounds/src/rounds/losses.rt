@@ -5,7 +5,7 @@ ghost use Rattle.world_parts.specs.pm_model.Cells.{cell, is_lent};
 ghost use Rattle.world_parts.specs.pm_model.Parts.{Part};
 ghost use Rattle.world_parts.specs.world_view_laws.Handed.{loans_filled, loans_out, AreOneEach};
 ghost use Rattle.world_parts.specs.world_view_laws.write_end.Blocks.{ComeHome};
-ghost use Rattle.world_parts.specs.world_view_laws.Losses.{MayCrash};
+ghost use Rattle.world_parts.specs.world_view_laws.Losses.{KeepsActed, MayCrash};
 ghost use Rattle.world_parts.specs.world_view_laws.Rounds.{IsLeft};
 ghost use Rattle.world_parts.specs.world_view_laws.write_end.Ends.{begun_by};
 ghost use Rattle.world_parts.specs.Seen.{seen, unfinished_of, IsKept};
@@ -79,12 +79,14 @@ fn lines_back(lines_out: bool, lines: Vec<Line>, home: Vec<Line>) -> Vec<Line>
     if lines_out { lines } else { home }
 }
 
-/// What is left of a World that lost its power, once lines and blocks are put back as they are.
+/// What is left of a World that lost its power, once lines and blocks are put back as they are. The calls of jobs that
+/// cannot have acted need not be among those that the device keeps the promise for.
 pub fn crash_lost(p: Parts, lines: Vec<Line>, out: Vec<Job>, filled: Vec<FilledJob>) -> Crashed
     requires kept { IsKept p }
     requires gone { p.lost ≡ true }
     requires may { MayCrash (seen p) lines.items out.items filled.items }
-    ensures { IsLeft (seen p) result.pm result.history.items result.unfinished.items }
+    ensures left { IsLeft (seen p) result.pm result.history.items result.unfinished.items }
+    ensures acted { KeepsActed (seen p) lines.items filled.items result.pm }
 {
     let _data = p.geometry.first_data();
     let first = p.geometry.log_line(0);

@@ -37,9 +37,15 @@ put_lines-requires-clause-out c =
     (subst (λ (d : List Cell). ComeHome (loans_out c.args.out.items) d c.settle_out.new.pm) c.into_pm-pm.ensures c.settle_out.ensures) c.settle_filled.new.pm c.settle_filled.ensures.home
     c.lines_back.result.items c.lines_back.ensures c.log_line-first.result c.log_line-first.ensures
 
-pub returns : goal.returns
-returns c =
+pub returns-clause-left : goal.returns-clause-left
+returns-clause-left c =
     subst (λ (calls : List Unfinished). IsLeft (seen c.args.p) c.put_lines.new.pm c.args.p.history.items calls) (sym c.calls_of.ensures)
     (left_now c.args.p c.requires.kept c.requires.gone c.args.lines.items c.args.out.items c.args.filled.items c.requires.may c.settle_out.new.pm
     (subst (λ (d : List Cell). ComeHome (loans_out c.args.out.items) d c.settle_out.new.pm) c.into_pm-pm.ensures c.settle_out.ensures) c.settle_filled.new.pm c.settle_filled.ensures.home
-    c.lines_back.result.items c.lines_back.ensures c.log_line-first.result c.log_line-first.ensures c.settle_filled.ensures.holds c.put_lines.new.pm c.put_lines.ensures.size c.put_lines.ensures.back c.put_lines.ensures.home)
+    c.lines_back.result.items c.lines_back.ensures c.log_line-first.result c.log_line-first.ensures c.settle_filled.ensures.holds c.put_lines.new.pm c.put_lines.ensures.size c.put_lines.ensures.back c.put_lines.ensures.home).0
+
+pub returns-clause-acted : goal.returns-clause-acted
+returns-clause-acted c =
+    (left_now c.args.p c.requires.kept c.requires.gone c.args.lines.items c.args.out.items c.args.filled.items c.requires.may c.settle_out.new.pm
+    (subst (λ (d : List Cell). ComeHome (loans_out c.args.out.items) d c.settle_out.new.pm) c.into_pm-pm.ensures c.settle_out.ensures) c.settle_filled.new.pm c.settle_filled.ensures.home
+    c.lines_back.result.items c.lines_back.ensures c.log_line-first.result c.log_line-first.ensures c.settle_filled.ensures.holds c.put_lines.new.pm c.put_lines.ensures.size c.put_lines.ensures.back c.put_lines.ensures.home).1

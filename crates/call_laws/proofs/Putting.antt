@@ -19,12 +19,13 @@ use Rattle.write_begin.specs.posix_tables.declared.open.Description.{Description
 use Rattle.write_begin.specs.posix_tables.Open.{opened, Tables}
 use Rattle.write_begin.specs.posix_tables.Outcomes.{answer, first}
 use Rattle.write_begin.specs.posix_laws.Views.{need_of}
-use Rattle.write_begin.specs.posix_laws.PutLaws.{LeavesWhole-put}
 use Rattle.write_begin.specs.posix_spec.FileRows.{file_number, write_rows}
 use Rattle.write_begin.specs.posix_spec.Put.{put_by}
 use Rattle.write_begin.specs.posix_spec.Run.{after_call}
-use Rattle.write_begin.specs.posix_spec.State.{room, State}
+use Rattle.write_begin.specs.posix_spec.State.{room}
 use Rattle.write_begin.specs.posix_spec.Step.{step, Stepped}
+use Rattle.write_begin.specs.posix_spec.Tree.{tree}
+use Rattle.world_view_laws.specs.eof_laws.k_journal.Commits.{TakesAStep}
 use Rattle.write_begin.specs.crash_spec.Busy.{is_logged}
 use Rattle.world_view_laws.proofs.in_flight_proofs.CountsCounts.{few_jobs}
 use Rattle.world_view_laws.specs.in_flight.Counters.{IsCounted}
@@ -49,7 +50,6 @@ use Rattle.world_view_laws.specs.eof_laws.Ends.{FilesEnd}
 use Rattle.write_begin.specs.write_plan.Plans.{placed_at, staged_run}
 use Rattle.write_begin.specs.write_plan.Asks.{CanMoveBy, moved_by}
 use Rattle.write_begin.specs.write_plan.Numbers.{OpenHaveLines}
-use Rattle.write_begin.proofs.BeginsAsked.{puts_of}
 use Rattle.world_view_laws.specs.Views.{Disk, disk_of, IsGoing, IsWorldOver, kept_of, state_of, WorldView}
 use Rattle.write_begin.proofs.Begun.{need_fits}
 use Rattle.write_begin.specs.Begins as writing
@@ -140,7 +140,7 @@ module _ (k : View) (t : Tables) (staging : Staged) (files : Files) (w : WorldVi
         in_place = λ mode. unput_in_place w who call (disk_of k t staging files) (refused_unput (state_of w) who h at x outcome (answer found_at));
         stay = others_returned k t staging files w one.world one.begins.awake one.out who call one.begins.next one.up one.none one.begins.idle k t files refl going.ends later;
         on = on;
-        spent = inl (ap (λ (y : State). y.entries) (sym same_state));
+        spent = inl (ap tree (sym same_state));
       }
 
     -- ---- what it lacks
@@ -309,17 +309,14 @@ module _ (k : View) (t : Tables) (staging : Staged) (files : Files) (w : WorldVi
         written = subst (λ (s : Staged). IsWorldOver l moved s laid (written_view s)) (sym writes.staging)
             (returned k t staging files w one.world one.begins.awake one.out who call one.begins.next one.up one.none one.begins.idle l moved laid keeps.base ends_now stands_then)
 
-        names_same : (after_call (state_of w) (who, call)).entries ≡ (state_of w).entries
-        names_same = (LeavesWhole-put (state_of w) who call (record { node = file_number (state_of w).tables who h; place = start_of (state_of w) who h at; bytes = x }) (puts_of (state_of w) who h at x none_row)).entries
-
         -- cells alone are others, and the offset of its handle
         lies : disk_of l moved staged laid ≡ record (disk_of writes.middle t staging files) { cells = l.cells; tables = moved }
         lies =
             (λ i. disk_of (writes.in_place i) moved (writes.staging i) (writes.same i))
 
         -- IT RETURNED.
-        pub writes_now : (before after : Supply) → is_on after ≡ true → Returns who w (written_view staged) before after
-        writes_now before after on = record {
+        pub writes_now : (before after : Supply) → is_on after ≡ true → TakesAStep before after → Returns who w (written_view staged) before after
+        writes_now before after on took = record {
           call = call;
           begins = one.begins;
           unlogged = writes.unlogged found_at;
@@ -337,7 +334,7 @@ module _ (k : View) (t : Tables) (staging : Staged) (files : Files) (w : WorldVi
           stay = subst (λ (s : Staged). OthersStay w (written_view s) who) (sym writes.staging)
               (others_returned k t staging files w one.world one.begins.awake one.out who call one.begins.next one.up one.none one.begins.idle l moved laid keeps.base ends_now stands_then);
           on = on;
-          spent = inl names_same;
+          spent = inr took;
         }
 
       -- ---- the round is over

@@ -23,6 +23,7 @@ use Rattle.world_view_laws.specs.eof_laws.posix_spec.Run.{after_call}
 use Rattle.world_view_laws.specs.eof_laws.posix_spec.Scripted.{items_of}
 use Rattle.world_view_laws.specs.eof_laws.posix_spec.State.{State}
 use Rattle.world_view_laws.specs.eof_laws.posix_spec.Step.{fsync_done, step, stepped}
+use Rattle.world_view_laws.specs.eof_laws.posix_spec.Tree.{tree}
 use Rattle.world_view_laws.specs.eof_laws.crash_spec.Busy.{is_logged, is_logged_put}
 use Rattle.world_view_laws.specs.in_flight.Histories.{item_with}
 use Rattle.world_view_laws.specs.in_flight.staging_files.Keeps.{Staged}
@@ -125,7 +126,7 @@ module _ (k : View) (t : Tables) (staging : Staged) (files : Files) (w : WorldVi
     ran = returned k t staging files w one.world one.begins.awake one.out who call one.begins.next one.up one.none one.begins.idle l u laid base ends stands
 
     pub returns : (before after : Supply) → put_by (state_of w) who call ≡ None → ((need left : ℕ) → ¬ LacksBeside w who call need left) → Publishes who call w return_view → is_on after ≡ true
-        → ((after_call (state_of w) (who, call)).entries ≡ (state_of w).entries) ⊎ TakesAStep before after → Returns who w return_view before after
+        → (tree (after_call (state_of w) (who, call)) ≡ tree (state_of w)) ⊎ TakesAStep before after → Returns who w return_view before after
     returns before after unput enough published on spent = record {
       call = call;
       begins = one.begins;
@@ -151,7 +152,7 @@ module _ (k : View) (t : Tables) (staging : Staged) (files : Files) (w : WorldVi
       → StandsAt w.geometry l u (kept_of w staging laid) true (length w.history + 1) (after_call (state_of w) (who, call)) × ((step (state_of w) who call).outcome ≡ outcome)
   stands_by l u laid outcome answers = answers w.geometry (kept_of w staging files) (length w.history) (state_of w) few_next now lets_now
 
-  pub spent_by : (before after : Supply) → IsSpent who call k t files before after → ((after_call (state_of w) (who, call)).entries ≡ (state_of w).entries) ⊎ TakesAStep before after
+  pub spent_by : (before after : Supply) → IsSpent who call k t files before after → (tree (after_call (state_of w) (who, call)) ≡ tree (state_of w)) ⊎ TakesAStep before after
   spent_by before after spent = spent w.geometry (kept_of w staging files) (length w.history) (state_of w) now
 
   -- ---- it lost its power

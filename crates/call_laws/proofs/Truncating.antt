@@ -1,5 +1,5 @@
 -- A `truncate` of a World.
-use Rattle.std.specs.Prelude.{◌≡◌, ◌≤◌, ◌+◌, ◌-◌, nat_le, nat_lt, ℕ, Bool, true, false, [], ◌∷◌, length, None, refl}
+use Rattle.std.specs.Prelude.{◌≡◌, ◌⊎◌, ◌≤◌, ◌+◌, ◌-◌, nat_le, nat_lt, ℕ, Bool, true, false, [], ◌∷◌, length, None, refl}
 use Rattle.std.proofs.Common.{arith, lit<, ap, ◌∙◌, sym}
 use Rattle.std.proofs.lemmas.Bool.Decides.{nat_tests}
 use Rattle.world_view_laws.specs.eof_laws.block_counts.Counts.{held_by}
@@ -22,6 +22,8 @@ use Rattle.world_view_laws.specs.eof_laws.posix_spec.Put.{put_by}
 use Rattle.world_view_laws.specs.eof_laws.posix_spec.Run.{after_call}
 use Rattle.world_view_laws.specs.eof_laws.posix_spec.State.{room, State}
 use Rattle.world_view_laws.specs.eof_laws.posix_spec.Step.{step}
+use Rattle.world_view_laws.specs.eof_laws.posix_spec.Tree.{tree}
+use Rattle.world_view_laws.specs.eof_laws.k_journal.Commits.{TakesAStep}
 use Rattle.world_view_laws.specs.in_flight.staging_files.Keeps.{Staged}
 use Rattle.world_view_laws.specs.in_flight.live_model.Losses.{KeepsWhenLost}
 use Rattle.world_view_laws.specs.in_flight.live_model.Standing.{StandsAt}
@@ -106,12 +108,14 @@ module _ (k : View) (t : Tables) (staging : Staged) (files : Files) (w : WorldVi
 
   pub truncate_stands : (l : View) (laid : Files) (outcome : Outcome) → truncates.Answers who h size taken k t files l laid outcome
       → StandsAt w.geometry l t (kept_of w staging laid) true (length w.history + 1) (after_call (state_of w) (who, Call.Truncate h size))
-      × ((step (state_of w) who (Call.Truncate h size)).outcome ≡ outcome) × ((after_call (state_of w) (who, Call.Truncate h size)).entries ≡ (state_of w).entries)
+      × ((step (state_of w) who (Call.Truncate h size)).outcome ≡ outcome)
   truncate_stands l laid outcome answers = (
     answers.runs w.geometry (kept_of w staging files) (length w.history) (state_of w) finds,
     answers.outcome_is w.geometry (kept_of w staging files) (length w.history) (state_of w) finds,
-    answers.names w.geometry (kept_of w staging files) (length w.history) (state_of w) finds,
   )
+
+  pub truncate_spent : (before after : Supply) → truncates.IsSpent who h size taken k t files before after → (tree (after_call (state_of w) (who, Call.Truncate h size)) ≡ tree (state_of w)) ⊎ TakesAStep before after
+  truncate_spent before after spent = spent w.geometry (kept_of w staging files) (length w.history) (state_of w) finds
 
   module _ (l : View) (loses : truncates.Loses who h size taken k t files l) where
     left_device : IsLeftOf w.geometry k.cells l.cells

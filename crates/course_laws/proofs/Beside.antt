@@ -20,7 +20,7 @@ use Rattle.world_view_laws.specs.posix_tables.Open.{same_who}
 use Rattle.world_view_laws.specs.write_jobs.Jobs.{JobView}
 use Rattle.world_view_laws.specs.Begins.{BeginsJob, Returns}
 use Rattle.world_view_laws.specs.Views.{state_of, WorldView}
-use Rattle.run_laws.proofs.Names.{same_caller}
+use Rattle.run_laws.proofs.Longer.{same_caller}
 use Rattle.event_laws.specs.declared.held.Held.{Held}
 use Rattle.event_laws.specs.declared.held.Work.{Work}
 use Rattle.event_laws.specs.Between.{Between}

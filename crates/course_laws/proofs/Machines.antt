@@ -25,7 +25,7 @@ use Rattle.world_view_laws.specs.posix_spec.State.{State}
 use Rattle.world_view_laws.specs.posix_spec.Step.{step}
 use Rattle.world_view_laws.specs.Begins.{Begins, item_of}
 use Rattle.world_view_laws.specs.Views.{files_out, HasNone, next_of, state_of, WorldView}
-use Rattle.run_laws.proofs.Names.{same_caller}
+use Rattle.run_laws.proofs.Longer.{same_caller}
 use Rattle.event_laws.specs.declared.held.Held.{Held}
 use Rattle.event_laws.specs.Between.{Between}
 use Rattle.course_laws.specs.Course.{IsCourse, IsJobBeside}

@@ -1,5 +1,5 @@
 -- The machine over events beside the World where a job goes, a round ends or begins; and how it came here.
-use Rattle.std.specs.Prelude.{◌≡◌, ◌≢◌, ◌⊎◌, ◌<◌, ◌≤◌, ◌+◌, ◌&&◌, ◌||◌, not, ℕ, Bool, true, false, List, [], ◌∷◌, ◌++◌, length, map, filter, Option, Some, None, Err, is_some, slice_get, refl}
+use Rattle.std.specs.Prelude.{◌≡◌, ◌≢◌, ◌<◌, ◌≤◌, ◌+◌, ◌&&◌, ◌||◌, not, ℕ, Bool, true, false, List, [], ◌∷◌, ◌++◌, length, map, filter, Option, Some, None, Err, is_some, slice_get, refl}
 use Rattle.std.specs.List.{remove}
 use Rattle.std.specs.Option.{option_map_or}
 use Rattle.std.proofs.Common.{arith, ap, ◌∙◌, sym, subst, inl, inr}
@@ -27,7 +27,7 @@ use Rattle.world_view_laws.specs.posix_spec.Put.{Put, put_by}
 use Rattle.world_view_laws.specs.posix_spec.Run.{Unfinished}
 use Rattle.world_view_laws.specs.posix_spec.Scripted.{Scripted}
 use Rattle.world_view_laws.specs.posix_spec.State.{State}
-use Rattle.run_laws.specs.Changes.{ChangesAtMost}
+use Rattle.run_laws.specs.Changes.{ChangesTreeAtMost}
 use Rattle.world_view_laws.specs.write_end.Ends.{begun_by}
 use Rattle.world_view_laws.specs.write_jobs.Jobs.{FilledView}
 use Rattle.world_view_laws.specs.Begins.{IsFilledOut, IsNeed, IsStagingNeed, item_of, LacksSpace, with_disk}
@@ -381,7 +381,7 @@ run_starts w first = record {
     any = record { given = refl; on_before = λ on. on; later = omega arith; bound = omega arith };
     ahead = omega arith;
     quiet = λ quiet. record { given = refl; on_before = λ on. on; later = omega arith; bound = omega arith };
-    names = λ given some. record { changed = 0; fewer = omega arith; most = omega arith; each = subst (λ (h : List Item). ChangesAtMost w.start h 0) (sym first.history) tt };
+    tree = λ given some. record { changed = 0; fewer = omega arith; most = omega arith; each = subst (λ (h : List Item). ChangesTreeAtMost w.start h 0) (sym first.history) tt };
   };
 } where
   nobody : (p : JobOut) → In p w.pending → ⊥

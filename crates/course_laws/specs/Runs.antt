@@ -15,7 +15,8 @@ use Rattle.world_view_laws.specs.crash_spec.Orders.{Order, Picker, Picks}
 use Rattle.world_view_laws.specs.crash_spec.Schedules.{Course, runnable}
 use Rattle.world_view_laws.specs.world_image_laws.Promised.{KeepsPromise}
 use Rattle.world_view_laws.specs.Views.{WorldView}
-use Rattle.run_laws.specs.Changes.{ChangesAtMost}
+use Rattle.run_laws.specs.Acted.{AreSomeOf}
+use Rattle.run_laws.specs.Changes.{ChangesTreeAtMost}
 use Rattle.event_laws.specs.Held.{OutView}
 use Rattle.course_laws.specs.Course.{Leads, setting_of}
 
@@ -36,9 +37,18 @@ pub record IsFirst (w : WorldView) : Type 0 where
   pub few : w.geometry.log < 2 ^ 32
   pub threads : length w.scripts.threads ≤ 8
 
+-- A STOP IS KEPT: the device keeps the promise with some of the unfinished calls alone, those that acted, in their order; and these and the
+-- calls of the history that changed the tree are together at most as many as steps were given.
+pub record KeepsStop (w : WorldView) (pm : List Cell) (history : List Item) (unfinished : List Unfinished) (given : ℕ) : Type 0 where
+  pub acted : List Unfinished
+  pub some : AreSomeOf acted unfinished
+  pub promise : KeepsPromise w.geometry pm w.start history acted
+  pub changed : ℕ
+  pub each : ChangesTreeAtMost w.start history changed
+  pub most : changed + length acted ≤ given
+
 -- WHAT A RUN LEFT: its history is legal and follows the scripts; the unfinished calls are the next of their callers, one each; nothing of the
--- device is lent, and it keeps the promise. It took steps that are afforded; and where the power was for a number of steps, at most so
--- many calls changed the names.
+-- device is lent, and it keeps the promise. It took steps that are afforded; and where the power was for a number of steps, the stop is kept.
 pub record IsRan (w : WorldView) (before after : Supply) (pm : List Cell) (history : List Item) (unfinished : List Unfinished) : Type 0 where
   pub legal : IsLegal w.start history
   pub scripted : Scripted w.scripts history
@@ -49,7 +59,7 @@ pub record IsRan (w : WorldView) (before after : Supply) (pm : List Cell) (histo
   pub given : after.given ≡ before.given
   pub later : before.taken ≤ after.taken
   pub afforded : (steps : ℕ) → after.taken ≡ before.taken + steps → Afforded steps history w.scripts w.start.mode
-  pub kept : (given : ℕ) → before.given ≡ Some given → ChangesAtMost w.start history given
+  pub kept : (given : ℕ) → before.given ≡ Some given → KeepsStop w pm history unfinished given
 
 -- SCHEDULED: so many events in this order, of the World and of the machine beside it, leave the history and these calls.
 pub record IsScheduled (w : WorldView) (order : Order) (events : ℕ) (history : List Item) (calls : List Unfinished) : Type 0 where

@@ -1,5 +1,5 @@
 -- A call begins: it returns, becomes a job, ends the round for want of space, or loses its power.
-use Rattle.std.specs.Prelude.{◌≡◌, ◌≢◌, ◌⊎◌, ◌<◌, ◌≤◌, ◌+◌, ◌*◌, ◌-◌, ℕ, Bool, true, false, List, [], ◌∷◌, ◌++◌, length, map, Option, Some, None, IsSome, nat_lt, if◌then◌else◌, refl}
+use Rattle.std.specs.Prelude.{◌≡◌, ◌≢◌, ◌<◌, ◌≤◌, ◌+◌, ◌*◌, ◌-◌, ℕ, Bool, true, false, List, [], ◌∷◌, ◌++◌, length, map, Option, Some, None, IsSome, nat_lt, if◌then◌else◌, refl}
 use Rattle.std.proofs.Common.{arith, ap, ◌∙◌, sym, subst, inl, inr, length-append}
 use Rattle.std.proofs.lemmas.List.{append-nil}
 use Rattle.run_laws.specs.round_log.pm_model.Powers.{is_on, Steps, Supply}
@@ -25,18 +25,18 @@ use Rattle.world_view_laws.proofs.Holes.{holes_move}
 use Rattle.world_view_laws.specs.write_plan.Plans.{staged_run}
 use Rattle.world_view_laws.specs.Views.{calls_out, Disk, next_of, state_of, WorldView}
 use Rattle.run_laws.proofs.Logs.{SameLap}
-use Rattle.run_laws.proofs.Names.{logged_moves, names_later, names_more, put_moves}
+use Rattle.run_laws.proofs.Longer.{logged_moves, put_moves, tree_later, tree_more}
 use Rattle.event_laws.specs.declared.held.Held.{Held}
 use Rattle.event_laws.specs.declared.held.Work.{Work}
 use Rattle.event_laws.specs.Between.{Between, ends_by, events_in, GoesOn, idle_by, left_to_do, LosesPower}
 use Rattle.event_laws.specs.EventsLaws.{BeginLoses, CallReturns, CanBegin, held, JobBegins, RoundEnds, with_job}
 use Rattle.event_laws.specs.Held.{HasLog, OutView}
-use Rattle.event_laws.specs.Paid.{IsPaid, moves_now, steps_in}
-use Rattle.event_laws.proofs.Crashes.{held_out, IsLogLeftOf, log_left, may_crash}
+use Rattle.event_laws.specs.Paid.{early_in, HaveActed, IsPaid, moves_now, steps_early, steps_in}
+use Rattle.event_laws.proofs.Crashes.{AreOut, have_acted, held_out, IsLogLeftOf, log_left, may_crash}
 use Rattle.event_laws.proofs.Few.{few_with}
 use Rattle.event_laws.proofs.Lines.{log_later, log_pushed}
-use Rattle.event_laws.proofs.Moves.{call_moves, logged_writes, quiet_before, quiet_next}
-use Rattle.event_laws.proofs.Pays.{IsPaidAny, no_steps, pays, quiet_call, small}
+use Rattle.event_laws.proofs.Moves.{call_moves, logged_writes, not_both, quiet_before, quiet_next}
+use Rattle.event_laws.proofs.Pays.{IsPaidAny, no_steps, pays, pays_acted, quiet_call, small}
 use Rattle.event_laws.proofs.Places.{sum_pushed}
 use Rattle.event_laws.proofs.Stays.{callers_pushed, each_pushed, drafts_pushed, held_pushed, held_stays, next_later, open_calls, open_with}
 
@@ -132,7 +132,7 @@ module _ (who : Who) (w : WorldView) (out : OutView) (can : CanBegin who w out) 
           let before_it = was.quiet none in
           subst (λ (n : ℕ). Steps (512 * n) first after) (sym count)
           (record { given = small_steps.given ∙ before_it.given; on_before = λ on. before_it.on_before (small_steps.on_before on); later = omega (arith, before_it.later, small_steps.later); bound = omega (arith, before_it.bound, small_steps.bound) }));
-      names = λ given some. names_more first before after w v item given (most_of_call is.call) refl refl (was.any.given ∙ some) is.on took is.spent (was.names given some);
+      tree = λ given some. tree_more first before after w v item (steps_early out.jobs) given (most_of_call is.call) refl refl took (was.tree given some) (was.any.given ∙ some) is.on is.spent;
     } where
       both : IsPaidAny first after v out.jobs
       both = pays first before after w v out.jobs out.jobs (most_of (next_of w who)) was steps (omega (arith, small (next_of w who)))
@@ -222,7 +222,7 @@ module _ (who : Who) (w : WorldView) (out : OutView) (can : CanBegin who w out) 
       any = both.any;
       ahead = both.ahead;
       quiet = λ quiet. (let never : true ≡ false = sym moves_w ∙ quiet in cc);
-      names = λ given some. names_later first before after w u given (most_of (next_of w who)) refl refl steps (was.names given some);
+      tree = λ given some. (let sum = sum_pushed (λ (x : Held). early_in x.work) out.jobs h in tree_later first before after w u (steps_early out.jobs) (steps_early left.jobs) given (most_of (next_of w who)) refl refl (omega (arith, sum)) steps (was.tree given some));
     } where
       both : IsPaidAny first after u left.jobs
       both = pays first before after w u out.jobs left.jobs (most_of (next_of w who)) was steps (omega (arith, small (next_of w who), sum_pushed (λ (x : Held). steps_in x.work) out.jobs h))
@@ -296,7 +296,7 @@ module _ (who : Who) (w : WorldView) (out : OutView) (can : CanBegin who w out) 
       any = both.any;
       ahead = both.ahead;
       quiet = λ quiet. (let never : true ≡ false = sym moves_z ∙ quiet in cc);
-      names = λ given some. names_later first before after w z given (most_of (next_of w who)) refl refl steps (was.names given some);
+      tree = λ given some. tree_later first before after w z (steps_early out.jobs) (steps_early out.jobs) given (most_of (next_of w who)) refl refl (omega arith) steps (was.tree given some);
     } where
       both : IsPaidAny first after z out.jobs
       both = pays first before after w z out.jobs out.jobs (most_of (next_of w who)) was steps (omega (arith, small (next_of w who)))
@@ -324,6 +324,16 @@ module _ (who : Who) (w : WorldView) (out : OutView) (can : CanBegin who w out) 
       stay_y : OthersStay w y who
       stay_y = subst (λ (x : WorldView). OthersStay w x who) is.new_is is.stay
 
+      out_y : AreOut y [] out.jobs
+      out_y = held_out y out.jobs (held_stays w y who out.jobs refl stay_y can.none b.held)
+
+      left_y : IsLogLeftOf y out.log out.jobs
+      left_y = left_of y out.log out.jobs (has_later w y out.log out.jobs (record { geometry = refl; base = refl; first = refl; lines_out = refl }) refl b.log)
+
+      -- this call too
+      acted_y : HaveActed y out (steps_early out.jobs + 1)
+      acted_y = have_acted y [] out.jobs b.callers (steps_early out.jobs + 1) (omega arith) out.log out_y b.drafts left_y
+
       lost : LosesPower (Some who) w out y out before after
       lost = record {
         later = record { geometry = refl; start = refl; scripts = refl };
@@ -331,8 +341,7 @@ module _ (who : Who) (w : WorldView) (out : OutView) (can : CanBegin who w out) 
         calls = inr (is.call, is.next, ap (λ (cs : List Unfinished). cs ++ (who, is.call) ∷ []) (sym jobs_alone));
         can = record {
           usable = b.usable;
-          crash = may_crash y out.log out.jobs (held_out y out.jobs (held_stays w y who out.jobs refl stay_y can.none b.held)) b.callers b.drafts
-              (left_of y out.log out.jobs (has_later w y out.log out.jobs (record { geometry = refl; base = refl; first = refl; lines_out = refl }) refl b.log));
+          crash = may_crash y [] out.log out.jobs out_y b.callers b.drafts left_y;
           open_calls = open_with y (who, is.call) refl b.next b.callers can.none (record { call = is.next; set_up = can.set_up });
         };
         off = is.off;
@@ -344,8 +353,9 @@ module _ (who : Who) (w : WorldView) (out : OutView) (can : CanBegin who w out) 
                   let small_steps : Steps 512 before after = subst (λ (n : ℕ). Steps n before after) (quiet_call is.call (quiet_next w.scripts w.history who is.call is.next quiet)) took-2 in
                   let before_it = was.quiet quiet in
                   record { given = small_steps.given ∙ before_it.given; on_before = λ on. before_it.on_before (small_steps.on_before on); later = omega (arith, before_it.later, small_steps.later); bound = omega (arith, before_it.bound, small_steps.bound) });
-              names = λ given some. names_later first before after w y given (most_of (next_of w who)) refl refl steps (was.names given some);
+              tree = λ given some. tree_later first before after w y (steps_early out.jobs) 0 given (most_of (next_of w who)) refl refl (omega arith) steps (was.tree given some);
             });
+        acted = λ first given on some was. pays_acted first before after w y out (steps_early out.jobs) (steps_early out.jobs + 1) given (most_of (next_of w who)) refl refl (was.any.given ∙ some) on is.off (omega arith) steps acted_y (was.tree given some);
       }
 
       pub lost_now : LosesPower (Some who) w out new out before after
@@ -369,7 +379,7 @@ module _ (who : Who) (w : WorldView) (out : OutView) (can : CanBegin who w out) 
         calls = inl refl;
         can = record {
           usable = b.usable;
-          crash = may_crash x-2 out.log out.jobs (held_out x-2 out.jobs (held_stays w x-2 who out.jobs refl stay-2 can.none b.held)) b.callers b.drafts
+          crash = may_crash x-2 [] out.log out.jobs (held_out x-2 out.jobs (held_stays w x-2 who out.jobs refl stay-2 can.none b.held)) b.callers b.drafts
               (left_of x-2 out.log out.jobs (has_later w x-2 out.log out.jobs (record { geometry = refl; base = refl; first = refl; lines_out = refl }) refl b.log));
           open_calls = open_calls x-2 b.none_unfinished b.next b.callers;
         };
@@ -382,8 +392,9 @@ module _ (who : Who) (w : WorldView) (out : OutView) (can : CanBegin who w out) 
               quiet = λ quiet. (
                   let before_it = was.quiet quiet in
                   record { given = none.given ∙ before_it.given; on_before = λ on. before_it.on_before (none.on_before on); later = omega (arith, before_it.later, none.later); bound = omega (arith, before_it.bound, none.bound) });
-              names = λ given some. names_later first before after w x-2 given 0 refl refl none (was.names given some);
+              tree = λ given some. tree_later first before after w x-2 (steps_early out.jobs) 0 given 0 refl refl (omega arith) none (was.tree given some);
             });
+        acted = λ first given on some was. absurd (not_both (is_on after) (ap is_on spared ∙ on) off);
       }
 
       pub ended_lost : LosesPower (Some who) w out new out before after
@@ -399,6 +410,6 @@ pub round_ends : RoundEnds
 round_ends who w new out before after need left can steps is = ended_now who w out can new before after need left steps is
 
 pub begin_loses : BeginLoses
-begin_loses who w new out before after can steps (inl was) = (let never : true ≡ false = sym was.0 ∙ can.between.awake in cc)
+begin_loses who w new out before after can steps (inl was) = absurd (not_both w.lost was.0 can.between.awake)
 begin_loses who w new out before after can steps (inr (inl is)) = lost_now who w out can new before after steps is.0
 begin_loses who w new out before after can steps (inr (inr is)) = ended_lost who w out can new before after steps is.2 is.3 is.4

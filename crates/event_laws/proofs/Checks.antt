@@ -17,6 +17,7 @@ use Rattle.world_view_laws.specs.posix_types.declared.call.Mode.{Mode}
 use Rattle.world_view_laws.specs.posix_types.declared.item.Item.{Item}
 use Rattle.world_view_laws.specs.posix_types.Scripts.{Scripts}
 use Rattle.world_view_laws.specs.posix_spec.Afforded.{is_posix, is_quiet, moves_data, next_calls}
+use Rattle.world_view_laws.specs.posix_spec.Run.{Unfinished}
 use Rattle.world_view_laws.specs.posix_spec.Scripted.{call_count, IsComplete, Scripted, Scripted-append}
 use Rattle.world_view_laws.specs.declared.views.over.Over.{Over}
 use Rattle.world_view_laws.specs.Begins.{item_of}
@@ -25,16 +26,16 @@ use Rattle.world_view_laws.specs.Rounds.{IsNextRound, IsRoundBegun, LosesRound, 
 use Rattle.world_view_laws.specs.Views.{WorldView}
 use Rattle.run_laws.specs.Paid.{has_moved}
 use Rattle.run_laws.proofs.Logs.{log_holds}
-use Rattle.run_laws.proofs.Names.{names_later}
+use Rattle.run_laws.proofs.Longer.{tree_later}
 use Rattle.event_laws.specs.declared.held.Held.{Held}
 use Rattle.event_laws.specs.Between.{Between, ends_by, GoesOn, left_to_do, LosesPower}
-use Rattle.event_laws.specs.EventsLaws.{AffordsLost, AffordsWhole, BeginsRound, CanCheck, CheckLoses, CrashesBetween, IsOpened, IsTurn, MayCheck, MayEnd, opened_log, PaidIsPaidOff, RoundChecked, with_log}
+use Rattle.event_laws.specs.EventsLaws.{ActedBetween, AffordsLost, AffordsWhole, BeginsRound, CanCheck, CheckLoses, CrashesBetween, IsOpened, IsTurn, MayCheck, MayEnd, opened_log, PaidIsPaidOff, RoundChecked, with_log}
 use Rattle.event_laws.specs.Held.{AreHeld, HasLog, IsFull, IsLogOf, nothing_out, OutView, slots_of}
-use Rattle.event_laws.specs.Paid.{IsPaid, moves_now}
+use Rattle.event_laws.specs.Paid.{HaveActed, IsPaid, moves_now, steps_early}
 use Rattle.event_laws.proofs.Begins.{left_of, one_longer}
-use Rattle.event_laws.proofs.Crashes.{held_out, may_crash}
+use Rattle.event_laws.proofs.Crashes.{AreOut, have_acted, held_out, may_crash}
 use Rattle.event_laws.proofs.Moves.{moves_by, next_moves}
-use Rattle.event_laws.proofs.Pays.{IsPaidAny, pays}
+use Rattle.event_laws.proofs.Pays.{IsPaidAny, pays, pays_acted}
 use Rattle.event_laws.proofs.Places.{at_In}
 use Rattle.event_laws.proofs.Stays.{open_calls}
 
@@ -53,7 +54,7 @@ none_pending w jobs held none = none_long w.pending (omega (arith, held.count, a
 pub crashes_between : CrashesBetween
 crashes_between w out b = record {
   usable = b.usable;
-  crash = may_crash w out.log out.jobs (held_out w out.jobs b.held) b.callers b.drafts (left_of w out.log out.jobs b.log);
+  crash = may_crash w [] out.log out.jobs (held_out w out.jobs b.held) b.callers b.drafts (left_of w out.log out.jobs b.log);
   open_calls = open_calls w b.none_unfinished b.next b.callers;
 }
 
@@ -116,7 +117,7 @@ module _ (old new : WorldView) (out : OutView) (lines : List Part) (base : ℕ) 
     any = paid.any;
     ahead = paid.ahead;
     quiet = paid.quiet;
-    names = λ given some. (let kept = paid.names given some in record { changed = kept.changed; fewer = kept.fewer; most = kept.most; each = kept.each });
+    tree = λ given some. (let kept = paid.tree given some in record { changed = kept.changed; fewer = kept.fewer; most = kept.most; each = kept.each });
   }
 
   pub begins_now : IsOpened old out new opened
@@ -251,7 +252,7 @@ module _ (w : WorldView) (out : OutView) (log : RoundView) (can : CanCheck w out
         any = both.any;
         ahead = both.ahead;
         quiet = λ quiet. (let never : true ≡ false = sym moves_w ∙ quiet in cc);
-        names = λ given some. names_later first before after w v given (2 ^ 26) refl refl steps (was.names given some);
+        tree = λ given some. tree_later first before after w v (steps_early out.jobs) 0 given (2 ^ 26) refl refl (omega arith) steps (was.tree given some);
       } where
         both : IsPaidAny first after v []
         both = pays first before after w v out.jobs [] (2 ^ 26) was steps (omega arith)
@@ -274,6 +275,12 @@ module _ (w : WorldView) (out : OutView) (log : RoundView) (can : CanCheck w out
         | inr off_now ↦ off_now
       ]
 
+      out_u : AreOut u [] []
+      out_u = held_out u [] (record { count = ap (λ (ps : List JobOut). length ps) (sym pending_w); each = λ i p h at_p at_h. (let never : None ≡ Some h = at_h in cc) })
+
+      acted_u : HaveActed u nothing_out 0
+      acted_u = have_acted u [] [] b.callers 0 (omega (arith, ap (λ (cs : List Unfinished). length cs) b.none_unfinished)) None out_u b.drafts refl
+
       lost : LosesPower None w out u nothing_out before after
       lost = record {
         later = record { geometry = refl; start = refl; scripts = refl };
@@ -281,7 +288,7 @@ module _ (w : WorldView) (out : OutView) (log : RoundView) (can : CanCheck w out
         calls = refl;
         can = record {
           usable = b.usable;
-          crash = may_crash u None [] (held_out u [] (record { count = ap (λ (ps : List JobOut). length ps) (sym pending_w); each = λ i p h at_p at_h. (let never : None ≡ Some h = at_h in cc) })) b.callers b.drafts refl;
+          crash = may_crash u [] None [] out_u b.callers b.drafts refl;
           open_calls = open_calls u b.none_unfinished b.next b.callers;
         };
         off = off;
@@ -290,8 +297,9 @@ module _ (w : WorldView) (out : OutView) (log : RoundView) (can : CanCheck w out
             record {
               any = both.any;
               quiet = λ quiet. (let never : true ≡ false = sym moves_w ∙ quiet in cc);
-              names = λ given some. names_later first before after w u given (2 ^ 26) refl refl steps (was.names given some);
+              tree = λ given some. tree_later first before after w u (steps_early out.jobs) 0 given (2 ^ 26) refl refl (omega arith) steps (was.tree given some);
             });
+        acted = λ first given on some was. pays_acted first before after w u nothing_out (steps_early out.jobs) 0 given (2 ^ 26) refl refl (was.any.given ∙ some) on off (omega arith) steps acted_u (was.tree given some);
       }
 
       pub lost_now : LosesPower None w out new nothing_out before after
@@ -376,7 +384,14 @@ pub paid_is_paid_off : PaidIsPaidOff
 paid_is_paid_off w out first now paid = record {
   any = paid.any;
   quiet = λ quiet. (let was = paid.quiet quiet in record { given = was.given; on_before = was.on_before; later = was.later; bound = omega (arith, was.bound) });
-  names = paid.names;
+  tree = λ given some. (let kept = paid.tree given some in record { changed = kept.changed; fewer = (let fewer = kept.fewer in omega (arith, fewer)); most = (let most = kept.most in omega (arith, most)); each = kept.each });
+}
+
+pub acted_between : ActedBetween
+acted_between w out first now given b some paid = record {
+  most = steps_early out.jobs;
+  tree = paid.tree given some;
+  acted = have_acted w [] out.jobs b.callers (steps_early out.jobs) (omega (arith, ap (λ (cs : List Unfinished). length cs) b.none_unfinished)) out.log (held_out w out.jobs b.held) b.drafts (left_of w out.log out.jobs b.log);
 }
 
 not_less : (m n : ℕ) → m ≡ n → nat_lt m n ≡ true → ⊥

@@ -1,7 +1,8 @@
 -- What is out between two events, and where the power went in one, is what a crash asks for.
-use Rattle.std.specs.Prelude.{◌≡◌, ◌⊎◌, ◌<◌, ◌+◌, ℕ, zero, suc, true, false, AllPairs, Contains, List, [], ◌∷◌, ◌++◌, length, map, Option, Some, None, slice_get, refl}
+use Rattle.std.specs.Prelude.{◌≡◌, ◌⊎◌, ◌<◌, ◌≤◌, ◌+◌, ℕ, zero, suc, true, false, AllPairs, Contains, filter, List, [], ◌∷◌, ◌++◌, length, map, Option, Some, None, slice_get, refl}
 use Rattle.std.specs.List.{cons_option, filter_map}
-use Rattle.std.proofs.Common.{arith, ap, ◌∙◌, sym, subst, inl, inr}
+use Rattle.std.proofs.Common.{arith, ap, ◌∙◌, sym, subst, inl, inr, length-append}
+use Rattle.std.proofs.lemmas.Bool.{cases_eq}
 use Rattle.std.proofs.lemmas.Option.{same_Some, slice_get_within}
 use Rattle.run_laws.specs.round_log.pm_model.Parts.{Part}
 use Rattle.run_laws.specs.round_log.layout_model.declared.lines.Draft.{Draft}
@@ -13,21 +14,24 @@ use Rattle.world_view_laws.specs.list_laws.Filters.{filter_map-In, In-filter_map
 use Rattle.world_view_laws.specs.list_laws.Members.{In}
 use Rattle.world_view_laws.specs.live_model.Standing.{JobOut}
 use Rattle.world_view_laws.specs.posix_types.declared.call.Who.{Who}
-use Rattle.world_view_laws.specs.write_end.Blocks.{AreBlocksHome}
+use Rattle.world_view_laws.specs.write_end.Blocks.{AreBlocksHome, AreBlocksOut}
+use Rattle.world_view_laws.specs.write_end.CrashesLaws.{MissesNone}
 use Rattle.world_view_laws.specs.write_end.Lines.{IsJobLine}
 use Rattle.world_view_laws.specs.write_jobs.Jobs.{FilledView, JobView}
 use Rattle.world_view_laws.specs.Begins.{IsFilledOut, IsJobOut}
 use Rattle.world_view_laws.specs.Lines.{AreCrashLines, AreFresh, first_of}
-use Rattle.world_view_laws.specs.Losses.{AreAllOut, AreTwo, callers_of, MayCrash}
+use Rattle.world_view_laws.specs.Losses.{AreAllOut, AreTwo, callers_of, calls_acted, MayCrash}
 use Rattle.world_view_laws.specs.Views.{WorldView}
 use Rattle.run_laws.proofs.Logs.{Contains-In, In-Contains}
 use Rattle.event_laws.specs.declared.held.Held.{Held}
 use Rattle.event_laws.specs.declared.held.Work.{Work}
-use Rattle.event_laws.specs.Between.{HaveOwnCallers, HaveOwnDrafts, lines_in}
-use Rattle.event_laws.specs.Held.{AreHeld, filled_in, filled_of, IsLogOf, IsWorkOut, job_in, jobs_of, slot_in, slots_of}
+use Rattle.event_laws.specs.Between.{HaveOwnCallers, HaveOwnDrafts}
+use Rattle.event_laws.specs.Held.{AreHeld, filled_in, filled_of, IsLogOf, IsWorkOut, job_in, jobs_of, lines_in, slot_in, slots_of}
+use Rattle.event_laws.specs.Paid.{HaveActed, steps_early}
+use Rattle.event_laws.proofs.Acted.{actor_there, actors_count, actors_of, among_In, count_calls, entries_of, entry_held, entry_in, few_among, In-behind, In-front, is_among}
 use Rattle.event_laws.proofs.Lines.{IsLineLeft, line_left}
 use Rattle.event_laws.proofs.Places.{at_In, In_at, pairs_at, place_there}
-use Rattle.event_laws.proofs.Slots.{IsSlotOf, slot_held, slot_of_job, slot_there}
+use Rattle.event_laws.proofs.Slots.{slot_held, slot_of_job, slot_there}
 
 -- ---- the jobs that are out, also where one lost its power
 
@@ -38,12 +42,20 @@ IsOut w p (Work.Claimed job slot) = IsFilledOut w p job
 IsOut w p (Work.Stored job slot) = IsFilledOut w p job
 IsOut w p (Work.Persisted job slot) = IsFilledOut w p job
 
--- each is one of the World, at a place of its own; and those of the World that are not among them have their blocks at home
-pub record AreOut (w : WorldView) (jobs : List Held) : Type 0 where
+pub lent_out : (w : WorldView) (p : JobOut) (work : Work) → IsOut w p work → AreBlocksOut p.blocks w.disk.cells
+lent_out w p (Work.Began job) is = is.lent
+lent_out w p (Work.Filled job) is = is.lent
+lent_out w p (Work.Claimed job slot) is = is.lent
+lent_out w p (Work.Stored job slot) is = is.lent
+lent_out w p (Work.Persisted job slot) is = is.lent
+
+-- each is one of the World, at a place of its own; and those of the World that are not among them are of these callers, and have their
+-- blocks at home
+pub record AreOut (w : WorldView) (ended : List Who) (jobs : List Held) : Type 0 where
   pub place : ℕ → ℕ
   pub apart : (i j : ℕ) → place i ≡ place j → i ≡ j
   pub each : (i : ℕ) (h : Held) → slice_get jobs i ≡ Some h → (p : JobOut) × (slice_get w.pending (place i) ≡ Some p) × (h.who ≡ p.who) × IsOut w p h.work
-  pub all : (p : JobOut) → In p w.pending → AreBlocksHome p.blocks w.disk.cells ⊎ ((h : Held) × In h jobs × IsOut w p h.work)
+  pub all : (p : JobOut) → In p w.pending → (In p.who ended × AreBlocksHome p.blocks w.disk.cells) ⊎ ((h : Held) × In h jobs × IsOut w p h.work)
 
 pub work_out : (w : WorldView) (p : JobOut) (work : Work) → IsWorkOut w p work → IsOut w p work
 work_out w p (Work.Began job) is = is.0
@@ -52,7 +64,7 @@ work_out w p (Work.Claimed job slot) is = is
 work_out w p (Work.Stored job slot) is = is
 work_out w p (Work.Persisted job slot) is = is
 
-pub held_out : (w : WorldView) (jobs : List Held) → AreHeld w jobs → AreOut w jobs
+pub held_out : (w : WorldView) (jobs : List Held) → AreHeld w jobs → AreOut w [] jobs
 held_out w jobs held = record {
   place = λ i. i;
   apart = λ i j same. same;
@@ -163,7 +175,7 @@ job_held h = job_in h.work
 abbrev filled_held : Held → Option FilledView
 filled_held h = filled_in h.work
 
-module _ (w : WorldView) (jobs : List Held) (out : AreOut w jobs) (callers : HaveOwnCallers w.pending) where
+module _ (w : WorldView) (ended : List Who) (jobs : List Held) (out : AreOut w ended jobs) (callers : HaveOwnCallers w.pending) where
   -- the job of the World at a place, and the other way round
   pub record IsOutAt (i : ℕ) (h : Held) : Type 0 where
     pub job : JobOut
@@ -230,7 +242,7 @@ module _ (w : WorldView) (jobs : List Held) (out : AreOut w jobs) (callers : Hav
         (joined (map job_who (jobs_of jobs)) (map filled_who (filled_of jobs)) (distinct_some job_held job_who jobs job_own apart_jobs) (distinct_some filled_held filled_who jobs filled_own apart_jobs) no_two);
     all = λ p there. (
         elim (out.all p there) [
-          | inl home ↦ inl home
+          | inl home ↦ inl home.1
           | inr held ↦ inr (elim (either w p held.0.work held.2) [
             | inl one ↦ inl (one.0, In-filter_map job_held jobs held.0 one.0 held.1 one.1, one.2)
             | inr two ↦ inr (two.0, In-filter_map filled_held jobs held.0 two.0 held.1 two.1, two.2)
@@ -262,20 +274,6 @@ log_left w log jobs is = record {
   lines = λ h there. line_left w log jobs is h.work (λ slot some. slot_member jobs h slot there some) (is.lines h there);
 }
 
--- the entry of a job, and its slot
-abbrev pub entry_in : Work → Option (ℕ × Draft)
-entry_in (Work.Began job) = None
-entry_in (Work.Filled job) = None
-entry_in (Work.Claimed job slot) = Some (slot, job.draft)
-entry_in (Work.Stored job slot) = Some (slot, job.draft)
-entry_in (Work.Persisted job slot) = Some (slot, job.draft)
-
-abbrev entry_held : Held → Option (ℕ × Draft)
-entry_held h = entry_in h.work
-
-abbrev pub entries_of : List Held → List (ℕ × Draft)
-entries_of jobs = filter_map entry_held jobs
-
 -- what an entry on its way is of
 record IsEntry (w : WorldView) (log : RoundView) (work : Work) (n : ℕ) (d : Draft) : Type 0 where
   job : FilledView
@@ -300,19 +298,30 @@ is_entry w log job slot work n d filled some line same = record {
 entry_is : (w : WorldView) (log : RoundView) (work : Work) (n : ℕ) (d : Draft) → (let two : Entry = (n, d) in entry_in work ≡ Some two) → IsEntry w log work n d
 entry_is w log (Work.Began job) n d is = (let two : Entry = (n, d) in let never : None ≡ Some two = is in cc)
 entry_is w log (Work.Filled job) n d is = (let two : Entry = (n, d) in let never : None ≡ Some two = is in cc)
-entry_is w log (Work.Claimed job slot) n d is = (let one : Entry = (slot, job.draft) in let two : Entry = (n, d) in is_entry w log job slot (Work.Claimed job slot) n d refl refl (λ left. left) (same_Some one two is))
+entry_is w log (Work.Claimed job slot) n d is = (let two : Entry = (n, d) in let never : None ≡ Some two = is in cc)
 entry_is w log (Work.Stored job slot) n d is = (let one : Entry = (slot, job.draft) in let two : Entry = (n, d) in is_entry w log job slot (Work.Stored job slot) n d refl refl (λ left. left) (same_Some one two is))
 entry_is w log (Work.Persisted job slot) n d is = (let one : Entry = (slot, job.draft) in let two : Entry = (n, d) in is_entry w log job slot (Work.Persisted job slot) n d refl refl (λ left. left) (same_Some one two is))
 
--- each slot has an entry on its way
-entry_of_slot : (work : Work) (n : ℕ) → slot_in work ≡ Some n → (d : Draft) × (let one : Entry = (n, d) in entry_in work ≡ Some one)
-entry_of_slot (Work.Began job) n is = (let never : None ≡ Some n = is in cc)
-entry_of_slot (Work.Filled job) n is = (let never : None ≡ Some n = is in cc)
-entry_of_slot (Work.Claimed job slot) n is = (job.draft, ap (λ (m : ℕ). (let one : Entry = (m, job.draft) in Some one)) (same_Some slot n is))
-entry_of_slot (Work.Stored job slot) n is = (job.draft, ap (λ (m : ℕ). (let one : Entry = (m, job.draft) in Some one)) (same_Some slot n is))
-entry_of_slot (Work.Persisted job slot) n is = (job.draft, ap (λ (m : ℕ). (let one : Entry = (m, job.draft) in Some one)) (same_Some slot n is))
+-- a line whose slot has no entry on its way is as at the beginning of the lap
+line_fresh : (w : WorldView) (log : RoundView) (work : Work) (n : ℕ) → slot_in work ≡ Some n → ((d : Draft) → (let one : Entry = (n, d) in entry_in work ≡ Some one) → ⊥) → IsLineLeft w log work
+    → IsAsAtFirst (line_at log.lines n).cells (first_of w n)
+line_fresh w log (Work.Began job) n is none left = (let never : None ≡ Some n = is in cc)
+line_fresh w log (Work.Filled job) n is none left = (let never : None ≡ Some n = is in cc)
+line_fresh w log (Work.Claimed job slot) n is none left = subst (λ (m : ℕ). IsAsAtFirst (line_at log.lines m).cells (first_of w m)) (same_Some slot n is) left
+line_fresh w log (Work.Stored job slot) n is none left = absurd (none job.draft (ap (λ (m : ℕ). (let one : Entry = (m, job.draft) in Some one)) (same_Some slot n is)))
+line_fresh w log (Work.Persisted job slot) n is none left = absurd (none job.draft (ap (λ (m : ℕ). (let one : Entry = (m, job.draft) in Some one)) (same_Some slot n is)))
 
-module _ (w : WorldView) (log : RoundView) (jobs : List Held) (out : AreOut w jobs) (callers : HaveOwnCallers w.pending) (drafts : HaveOwnDrafts w.pending) (left : IsLogLeft w log jobs) where
+in_or_not : (xs : List ℕ) (n : ℕ) → In n xs ⊎ (¬ In n xs)
+in_or_not [] n = inr (λ at. at)
+in_or_not (x ∷ xs) n = elim (cases_eq x n) [
+  | inl same ↦ inl (inl same)
+  | inr other ↦ elim (in_or_not xs n) [
+    | inl there ↦ inl (inr there)
+    | inr none ↦ inr (λ at. elim at [ inl same ↦ other same | inr rest ↦ none rest ])
+  ]
+]
+
+module _ (w : WorldView) (log : RoundView) (ended : List Who) (jobs : List Held) (out : AreOut w ended jobs) (callers : HaveOwnCallers w.pending) (drafts : HaveOwnDrafts w.pending) (left : IsLogLeft w log jobs) where
   count : length log.lines ≡ w.geometry.log
   count = left.holds.count ∙ left.fresh.are.count
 
@@ -321,6 +330,7 @@ module _ (w : WorldView) (log : RoundView) (jobs : List Held) (out : AreOut w jo
     place : ℕ
     held : Held
     at : slice_get jobs place ≡ Some held
+    some : (let one : Entry = (n, d) in entry_in held.work ≡ Some one)
     entry : IsEntry w log held.work n d
 
   on_way : (n : ℕ) (d : Draft) → (let one : Entry = (n, d) in In one (entries_of jobs)) → IsOnWay n d
@@ -328,12 +338,12 @@ module _ (w : WorldView) (log : RoundView) (jobs : List Held) (out : AreOut w jo
       let one : Entry = (n, d) in
       let from = filter_map-In entry_held jobs one there in
       let place = at_In jobs from.0 from.1 in
-      record { place = place.0; held = from.0; at = place.1; entry = entry_is w log from.0.work n d from.2 }
+      record { place = place.0; held = from.0; at = place.1; some = from.2; entry = entry_is w log from.0.work n d from.2 }
 
   -- the entry is that of its job
   its_draft : (n : ℕ) (d : Draft) (way : IsOnWay n d) → (p : JobOut) × (slice_get w.pending (out.place way.place) ≡ Some p) × (d ≡ p.draft)
   its_draft n d way =
-      let one = out_at w jobs out callers way.place way.held way.at in
+      let one = out_at w ended jobs out callers way.place way.held way.at in
       let filled = out_filled w one.job way.held.work way.entry.job way.entry.filled one.is in
       (one.job, one.at, sym way.entry.draft ∙ filled.draft)
 
@@ -363,15 +373,45 @@ module _ (w : WorldView) (log : RoundView) (jobs : List Held) (out : AreOut w jo
     entries = λ n d there. (
         let way = on_way n d there in
         (omega (arith, (left.holds.out n (slot_way n d way)).0, left.round.within), way.entry.line (left.lines way.held (In_at jobs way.place way.held way.at))));
-    others = λ n below free none.
-        subst (λ (line : Part). IsAsAtFirst line.cells (first_of w n)) (sym (left.holds.others n (λ d there. (let one : Entry = (n, d) in free d (Contains-In w.claims one there))) (λ there. untaken n none (slot_of_job jobs n there))))
-        (left.fresh.words n (omega (arith, below, left.holds.count)));
+    others = λ n below free none. by_slot n below free none (in_or_not (slots_of jobs) n);
   } where
-    untaken : (n : ℕ) → ((d : Draft) → ¬ (let one : Entry = (n, d) in In one (entries_of jobs))) → IsSlotOf jobs n → ⊥
-    untaken n none slot =
-        let entry = entry_of_slot slot.job.work n slot.is in
-        let one : Entry = (n, entry.0) in
-        none entry.0 (In-filter_map entry_held jobs slot.job one (In_at jobs slot.place slot.job slot.at) entry.1)
+    by_slot : (n : ℕ) → n < length log.lines → ((d : Draft) → ¬ (let one : Entry = (n, d) in In one w.claims)) → ((d : Draft) → ¬ (let one : Entry = (n, d) in In one (entries_of jobs))) → In n (slots_of jobs) ⊎ (¬ In n (slots_of jobs))
+        → IsAsAtFirst (line_at log.lines n).cells (first_of w n)
+    by_slot n below free none (inl there) =
+        let slot = slot_of_job jobs n (In-Contains (slots_of jobs) n there) in
+        let job = In_at jobs slot.place slot.job slot.at in
+        line_fresh w log slot.job.work n slot.is (λ d is. (let one : Entry = (n, d) in none d (In-filter_map entry_held jobs slot.job one job is))) (left.lines slot.job job)
+    by_slot n below free none (inr untaken) =
+        subst (λ (line : Part). IsAsAtFirst line.cells (first_of w n)) (sym (left.holds.others n (λ d there. (let one : Entry = (n, d) in free d (Contains-In w.claims one there))) (λ there. untaken (Contains-In (slots_of jobs) n there))))
+        (left.fresh.words n (omega (arith, below, left.holds.count)))
+
+  -- ---- who acted
+
+  -- those that ended, and those whose entry was stored
+  abbrev actors : List Who
+  actors = ended ++ actors_of jobs
+
+  never_among : (p : JobOut) → In p.who actors → is_among actors p ≡ false → ⊥
+  never_among p own fails = (let holds = among_In actors p own in cc (holds, fails))
+
+  pub misses_none : MissesNone w.pending w.disk.cells (entries_of jobs) (is_among actors)
+  misses_none = record {
+    lent = λ p there fails. elim (out.all p there) [
+      | inl own ↦ absurd (never_among p (In-front ended (actors_of jobs) p.who own.0) fails)
+      | inr held ↦ lent_out w p held.0.work held.2
+    ];
+    none = λ p slot there fails at. (
+        let way = on_way slot p.draft at in
+        let its = its_draft slot p.draft way in
+        let place = at_In w.pending p there in
+        let here : place.0 ≡ out.place way.place = drafts place.0 (out.place way.place) p its.0 place.1 its.1 its.2 in
+        let same : p ≡ its.0 = same_Some p its.0 (sym place.1 ∙ (ap (slice_get w.pending) here ∙ its.1)) in
+        let one = out_at w ended jobs out callers way.place way.held way.at in
+        let same_job : one.job ≡ its.0 = same_Some one.job its.0 (sym one.at ∙ its.1) in
+        let who : way.held.who ≡ p.who = one.who ∙ ap (λ (x : JobOut). x.who) (same_job ∙ sym same) in
+        let acts : In way.held.who (actors_of jobs) = actor_there jobs way.held (slot, p.draft) (In_at jobs way.place way.held way.at) way.some in
+        never_among p (In-behind ended (actors_of jobs) p.who (subst (λ (x : Who). In x (actors_of jobs)) who acts)) fails);
+  }
 
 -- ---- the crash
 
@@ -379,16 +419,33 @@ abbrev pub IsLogLeftOf : WorldView → Option RoundView → List Held → Type 0
 IsLogLeftOf w None jobs = w.lines_out ≡ false
 IsLogLeftOf w (Some log) jobs = IsLogLeft w log jobs
 
--- WHAT IS OUT IS WHAT A CRASH ASKS FOR.
-pub may_crash : (w : WorldView) (log : Option RoundView) (jobs : List Held) → AreOut w jobs → HaveOwnCallers w.pending → HaveOwnDrafts w.pending → IsLogLeftOf w log jobs
-    → MayCrash w (lines_in log) (jobs_of jobs) (filled_of jobs)
-may_crash w None jobs out callers drafts home = record {
-  jobs = all_out w jobs out callers;
-  lines_are = λ lines. (let never : false ≡ true = sym home ∙ lines in cc);
-  none = λ none. refl;
-}
-may_crash w (Some log) jobs out callers drafts left = record {
-  jobs = all_out w jobs out callers;
-  lines_are = λ lines. (entries_of jobs, crash_lines w log jobs out callers drafts left);
-  none = λ home. (let never : true ≡ false = sym left.fresh.are.out ∙ home in cc);
-}
+module _ (w : WorldView) (ended : List Who) where
+  -- WHAT IS OUT IS WHAT A CRASH ASKS FOR.
+  pub may_crash : (log : Option RoundView) (jobs : List Held) → AreOut w ended jobs → HaveOwnCallers w.pending → HaveOwnDrafts w.pending → IsLogLeftOf w log jobs → MayCrash w (lines_in log) (jobs_of jobs) (filled_of jobs)
+  may_crash None jobs out callers drafts home = record {
+    jobs = all_out w ended jobs out callers;
+    lines_are = λ lines. (let never : false ≡ true = sym home ∙ lines in cc);
+    none = λ none. refl;
+  }
+  may_crash (Some log) jobs out callers drafts left = record {
+    jobs = all_out w ended jobs out callers;
+    lines_are = λ lines. (entries_of jobs, crash_lines w log ended jobs out callers drafts left);
+    none = λ home. (let never : true ≡ false = sym left.fresh.are.out ∙ home in cc);
+  }
+
+  -- AND SO MANY OF THE CALLS THAT ARE OUT ACTED AT MOST: those of jobs that ended, those of jobs whose entry was stored, and the one that lost
+  -- its power.
+  module _ (jobs : List Held) (callers : HaveOwnCallers w.pending) (most : ℕ) (few : length ended + steps_early jobs + length w.unfinished ≤ most) where
+    few_calls : length (calls_acted w (is_among (ended ++ actors_of jobs))) ≤ most
+    few_calls =
+        let among : length (filter (is_among (ended ++ actors_of jobs)) w.pending) ≤ length (ended ++ actors_of jobs) = few_among (ended ++ actors_of jobs) w.pending callers in
+        let calls : length (calls_acted w (is_among (ended ++ actors_of jobs))) ≡ length (filter (is_among (ended ++ actors_of jobs)) w.pending) + length w.unfinished = count_calls w (is_among (ended ++ actors_of jobs)) in
+        omega (arith, few, among, calls, length-append ended (actors_of jobs), actors_count jobs)
+
+    pub have_acted : (log : Option RoundView) → AreOut w ended jobs → HaveOwnDrafts w.pending → IsLogLeftOf w log jobs → HaveActed w (record { log = log; jobs = jobs }) most
+    have_acted None out drafts home = record { acts = is_among (ended ++ actors_of jobs); tells = λ lines. (let never : false ≡ true = sym home ∙ lines in cc); few = few_calls }
+    have_acted (Some log) out drafts left = record {
+      acts = is_among (ended ++ actors_of jobs);
+      tells = λ lines. (entries_of jobs, crash_lines w log ended jobs out callers drafts left, misses_none w log ended jobs out callers drafts left);
+      few = few_calls;
+    }

@@ -15,33 +15,32 @@ use Rattle.world_view_laws.specs.posix_types.declared.item.Item.{Item}
 use Rattle.world_view_laws.specs.posix_types.declared.call.Who.{Who}
 use Rattle.world_view_laws.specs.in_flight.Histories.{next_stays, set_up_stays}
 use Rattle.world_view_laws.specs.posix_tables.Open.{same_who}
+use Rattle.world_view_laws.specs.posix_spec.Run.{Unfinished}
 use Rattle.world_view_laws.specs.posix_spec.Scripted.{Scripted, Scripted-append}
 use Rattle.world_view_laws.specs.write_jobs.Jobs.{FilledView}
 use Rattle.world_view_laws.specs.declared.views.over.Over.{Over}
 use Rattle.world_view_laws.specs.Begins.{IsFilledOut, item_of, OthersStay}
 use Rattle.world_view_laws.specs.Jobs.{Finishes, GivesUp, LosesFinish, over_by}
-use Rattle.world_view_laws.specs.Views.{next_of, state_of, WorldView}
-use Rattle.run_laws.specs.Changes.{after_item}
+use Rattle.world_view_laws.specs.Views.{next_of, WorldView}
 use Rattle.world_view_laws.proofs.in_flight_proofs.Taking.{other_who}
 use Rattle.run_laws.proofs.Logs.{SameLap}
-use Rattle.run_laws.proofs.Names.{names_later, names_more}
+use Rattle.run_laws.proofs.Longer.{tree_later, tree_paid}
 use Rattle.event_laws.specs.declared.held.Held.{Held}
 use Rattle.event_laws.specs.declared.held.Work.{Work}
 use Rattle.event_laws.specs.Between.{Between, ends_by, events_in, GoesOn, left_to_do, LosesPower}
 use Rattle.event_laws.specs.EventsLaws.{FilledIsHere, FinishLoses, held, IsHere, JobFinishes, JobGivenUp, PersistedIsHere, IsHeldAt, with_log, without_job}
 use Rattle.event_laws.specs.Held.{HasLog, IsLogOf, OutView}
-use Rattle.event_laws.specs.Paid.{IsPaid, moves_now, steps_in}
+use Rattle.event_laws.specs.Paid.{early_in, HaveActed, IsPaid, moves_now, steps_early, steps_in}
 use Rattle.event_laws.proofs.Begins.{few_ends, few_idle, left_of, one_longer}
-use Rattle.event_laws.proofs.Crashes.{may_crash}
+use Rattle.event_laws.proofs.Crashes.{AreOut, have_acted, IsLogLeftOf, may_crash}
 use Rattle.event_laws.proofs.Few.{without_place}
 use Rattle.event_laws.proofs.Lines.{log_finished, log_later, log_without, slot_below}
 use Rattle.event_laws.proofs.Moves.{moves_more}
-use Rattle.event_laws.proofs.Pays.{IsPaidAny, no_steps, pays}
+use Rattle.event_laws.proofs.Pays.{IsPaidAny, no_steps, pays, pays_acted}
 use Rattle.event_laws.proofs.Places.{In_at, sum_taken}
 use Rattle.event_laws.proofs.Slots.{slot_there}
 use Rattle.event_laws.proofs.Stays.{callers_taken, drafts_taken, held_taken, In_taken, next_later, open_calls, out_taken}
 use Rattle.event_laws.proofs.Works.{IsAtPlace, its_line, its_place, job_moves, log_there}
-use Rattle.event_laws.proofs.Writes.{write_keeps}
 
 -- ---- a filled job is here
 
@@ -179,13 +178,10 @@ module _ (who : Who) (w new : WorldView) (out : OutView) (i slot : ℕ) (before 
       any = both.any;
       ahead = both.ahead;
       quiet = λ quiet. (let never : true ≡ false = sym (later_moves (job_moves w out b i h at)) ∙ quiet in cc);
-      names = λ given some. names_more first before after w z item given (2 ^ 26) refl refl (was.any.given ∙ some) ends.on steps (inl keeps) (was.names given some);
+      tree = λ given some. tree_paid first before after w z item (steps_early out.jobs) given (2 ^ 26) refl refl steps (was.tree given some) (steps_early left) (sym (sum_taken (λ (x : Held). early_in x.work) out.jobs i h at));
     } where
       both : IsPaidAny first after z left
       both = pays first before after w z out.jobs left (2 ^ 26) was steps (omega (arith, sum_taken (λ (x : Held). steps_in x.work) out.jobs i h at))
-
-      keeps : (after_item (state_of w) item).entries ≡ (state_of w).entries
-      keeps = write_keeps (state_of w) p.who p.call (b.writes p (In_at w.pending i p place.at_place))
 
     finished : GoesOn w out z (without_job out i) before after
     finished = record { later = record { geometry = refl; start = refl; scripts = refl }; between = finished_between; less = finished_less; on = ends.on; paid = finished_paid }
@@ -208,6 +204,24 @@ module _ (who : Who) (w new : WorldView) (out : OutView) (i slot : ℕ) (before 
     acts_are : new.acts ≡ w.acts + 1
     acts_are = ends.first_one b.awake
 
+    off-u : is_on after ≡ false
+    off-u = elim ends.off [
+      | inl gone ↦ (let never : true ≡ false = sym gone ∙ b.awake in cc)
+      | inr off ↦ off
+    ]
+
+    out-u : AreOut u (p.who ∷ []) others
+    out-u = out_taken w u out.jobs i p place.at_place refl stay-u b.callers ends.back b.held
+
+    left-u : IsLogLeftOf u out.log others
+    left-u = left_of u out.log others (has_left u (record { geometry = refl; base = refl; first = refl; lines_out = refl }) refl)
+
+    -- its own call among them
+    acted-u : HaveActed u (without_job out i) (steps_early out.jobs)
+    acted-u =
+        have_acted u (p.who ∷ []) others b.callers (steps_early out.jobs)
+        (omega (arith, ap (λ (cs : List Unfinished). length cs) b.none_unfinished, sum_taken (λ (x : Held). early_in x.work) out.jobs i h at)) out.log out-u b.drafts left-u
+
     lost : LosesPower None w out u (without_job out i) before after
     lost = record {
       later = record { geometry = refl; start = refl; scripts = refl };
@@ -215,21 +229,18 @@ module _ (who : Who) (w new : WorldView) (out : OutView) (i slot : ℕ) (before 
       calls = refl;
       can = record {
         usable = b.usable;
-        crash = may_crash u out.log others (out_taken w u out.jobs i p place.at_place refl stay-u b.callers ends.back b.held) b.callers b.drafts
-            (left_of u out.log others (has_left u (record { geometry = refl; base = refl; first = refl; lines_out = refl }) refl));
+        crash = may_crash u (p.who ∷ []) out.log others out-u b.callers b.drafts left-u;
         open_calls = open_calls u b.none_unfinished b.next b.callers;
       };
-      off = elim ends.off [
-        | inl gone ↦ (let never : true ≡ false = sym gone ∙ b.awake in cc)
-        | inr off ↦ off
-      ];
+      off = off-u;
       paid = λ first was. (
           let both = pays first before after w u out.jobs others (2 ^ 26) was steps (omega (arith, acts_are, sum_taken (λ (x : Held). steps_in x.work) out.jobs i h at)) in
           record {
             any = both.any;
             quiet = λ quiet. (let never : true ≡ false = sym (job_moves w out b i h at) ∙ quiet in cc);
-            names = λ given some. names_later first before after w u given (2 ^ 26) refl refl steps (was.names given some);
+            tree = λ given some. tree_later first before after w u (steps_early out.jobs) 0 given (2 ^ 26) refl refl (omega arith) steps (was.tree given some);
           });
+      acted = λ first given on some was. pays_acted first before after w u (without_job out i) (steps_early out.jobs) (steps_early out.jobs) given (2 ^ 26) refl refl (was.any.given ∙ some) on off-u (omega arith) steps acted-u (was.tree given some);
     }
 
     pub lost_now : LosesPower None w out new (without_job out i) before after
@@ -321,7 +332,7 @@ module _ (who : Who) (w new : WorldView) (out : OutView) (i : ℕ) (log : RoundV
       any = both.any;
       ahead = both.ahead;
       quiet = was.quiet;
-      names = λ given some. names_later first power power w y given 0 refl refl (no_steps power) (was.names given some);
+      tree = λ given some. (let sum = sum_taken (λ (x : Held). early_in x.work) out.jobs i h-2 at in tree_later first power power w y (steps_early out.jobs) (steps_early left-2.jobs) given 0 refl refl (omega (arith, sum)) (no_steps power) (was.tree given some));
     } where
       both : IsPaidAny first power y left-2.jobs
       both = pays first power power w y out.jobs left-2.jobs 0 was (no_steps power) (omega (arith, sum_taken (λ (x : Held). steps_in x.work) out.jobs i h-2 at))

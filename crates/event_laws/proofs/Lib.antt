@@ -1,13 +1,13 @@
 pub mod Places
 pub mod Slots
 pub mod Lines
+pub mod Acted
 pub mod Crashes
 pub mod Moves
 pub mod Pays
 pub mod Few
 pub mod Stays
 pub mod Works
-pub mod Writes
 pub mod Begins
 pub mod Finishes
 pub mod Checks

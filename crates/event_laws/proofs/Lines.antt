@@ -223,23 +223,15 @@ module _ (w : WorldView) (log : RoundView) (jobs : List Held) (is : IsLogOf w lo
 
 -- ---- what a crash finds in a line
 
--- HOW FAR A LINE CAME where the power may have gone: it is its entry, or has it put over its first words.
+-- HOW FAR A LINE CAME where the power may have gone: it is as at the beginning of the lap; or it is its entry, or has it put over its first words.
 abbrev pub IsLineLeft : WorldView → RoundView → Work → Type 0
 IsLineLeft w log (Work.Began job) = Unit {0}
 IsLineLeft w log (Work.Filled job) = Unit {0}
-IsLineLeft w log (Work.Claimed job slot) = IsJobLine (line_at log.lines slot).cells (first_of w slot) job.draft (w.base + slot)
+IsLineLeft w log (Work.Claimed job slot) = IsAsAtFirst (line_at log.lines slot).cells (first_of w slot)
 IsLineLeft w log (Work.Stored job slot) = IsJobLine (line_at log.lines slot).cells (first_of w slot) job.draft (w.base + slot)
 IsLineLeft w log (Work.Persisted job slot) = IsJobLine (line_at log.lines slot).cells (first_of w slot) job.draft (w.base + slot)
 
 module _ (first : Words) (line : List Cell) (fresh : IsAsAtFirst line first) where
-  -- as it was
-  pub first_over : (entry : Words) → IsPutOver line first entry
-  first_over entry = record {
-    home = λ j below. ap is_lent (fresh j below);
-    older = λ j below. ap oldest (fresh j below);
-    newer = λ j below two. (let never : false ≡ true = sym (ap has_two (fresh j below)) ∙ two in cc);
-  }
-
   -- with words of the entry stored into it
   pub stored_over : (entry : Words) (on : Bool) (cells : List Cell) → HasStored line entry on cells → IsPutOver cells first entry
   stored_over entry on cells has = record {
@@ -280,7 +272,7 @@ module _ (w : WorldView) (log : RoundView) (jobs : List Held) (is : IsLogOf w lo
   line_left (Work.Began job) there has = tt
   line_left (Work.Filled job) there has = tt
   line_left (Work.Claimed job slot) there has =
-      inr (subst (λ (line : Part). IsPutOver line.cells (first_of w slot) (entry_words job.draft (w.base + slot))) (sym has) (first_over (first_of w slot) (line_at is.start slot).cells (fresh_line slot (there slot refl)) (entry_words job.draft (w.base + slot))))
+      subst (λ (line : Part). IsAsAtFirst line.cells (first_of w slot)) (sym has) (fresh_line slot (there slot refl))
   line_left (Work.Stored job slot) there has =
       inr (stored_over (first_of w slot) (line_at is.start slot).cells (fresh_line slot (there slot refl)) (entry_words job.draft (w.base + slot)) true (line_at log.lines slot).cells
       (subst (λ (n : ℕ). HasStored (line_at is.start slot).cells (entry_words job.draft n) true (line_at log.lines slot).cells) (seq_is slot) has))

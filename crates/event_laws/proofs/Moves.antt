@@ -22,7 +22,7 @@ use Rattle.world_view_laws.specs.posix_spec.Scripted.{items_of, next_call, scrip
 use Rattle.world_view_laws.specs.posix_spec.State.{State}
 use Rattle.world_view_laws.specs.in_flight.commute_laws.Handles.{same_who-is}
 use Rattle.run_laws.specs.Paid.{has_moved}
-use Rattle.run_laws.proofs.Names.{moved_now, moved_still}
+use Rattle.run_laws.proofs.Longer.{moved_now, moved_still}
 
 abbrev pub next_moves : Scripts → List Item → Bool
 next_moves scripts history = list_any moves_data (next_calls scripts history)

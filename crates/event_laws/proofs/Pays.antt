@@ -1,14 +1,17 @@
 -- What events take of the power is paid for.
-use Rattle.std.specs.Prelude.{◌≡◌, ◌≤◌, ◌+◌, ◌*◌, ◌^◌, ℕ, Bool, true, false, List, Option, Some, None, if◌then◌else◌, refl}
-use Rattle.std.proofs.Common.{arith, ap, ◌∙◌, sym}
-use Rattle.run_laws.specs.round_log.pm_model.Powers.{Steps, Supply}
+use Rattle.std.specs.Prelude.{◌≡◌, ◌⊎◌, ◌≤◌, ◌+◌, ◌*◌, ◌^◌, ℕ, Bool, true, false, List, Option, Some, None, if◌then◌else◌, refl}
+use Rattle.std.proofs.Common.{arith, ap, ◌∙◌, sym, inl, inr}
+use Rattle.run_laws.specs.round_log.pm_model.Powers.{is_on, Steps, Supply}
+use Rattle.run_laws.specs.Paid.{KeepsTree}
 use Rattle.world_view_laws.specs.in_flight.Costs.{most_of, most_of_call}
+use Rattle.world_view_laws.specs.k_journal.Commits.{TakesAStep}
 use Rattle.world_view_laws.specs.posix_types.declared.call.Call.{Call}
 use Rattle.world_view_laws.specs.posix_spec.Afforded.{moves_data}
 use Rattle.world_view_laws.specs.Views.{WorldView}
-use Rattle.run_laws.proofs.Names.{names_later}
+use Rattle.run_laws.proofs.Longer.{tree_ahead, tree_later, tree_off}
 use Rattle.event_laws.specs.declared.held.Held.{Held}
-use Rattle.event_laws.specs.Paid.{act_steps, IsPaid, IsPaidOff, moves_now, steps_ahead}
+use Rattle.event_laws.specs.Held.{OutView}
+use Rattle.event_laws.specs.Paid.{act_steps, HaveActed, IsPaid, IsPaidOff, moves_now, PaysForActed, steps_ahead, steps_early}
 
 -- ---- supplies
 
@@ -47,16 +50,34 @@ pays first before after w v jobs left n was steps enough = record {
   ahead = omega (arith, was.ahead, steps.bound, enough);
 }
 
+-- no step more was taken ahead of a return; or one was
+abbrev pub IsEarly : Supply → Supply → ℕ → ℕ → Type 0
+IsEarly before after early left = (left ≤ early) ⊎ ((left ≡ early + 1) × (is_on after ≡ true) × TakesAStep before after)
+
+still_keeps : (first before after : Supply) (w : WorldView) (early left given n : ℕ) → before.given ≡ Some given → Steps n before after → IsEarly before after early left → KeepsTree first before w early given → KeepsTree first after w left given
+still_keeps first before after w early left given n some steps (inl fewer) kept = tree_later first before after w w early left given n refl refl fewer steps kept
+still_keeps first before after w early left given n some steps (inr (one, on, takes)) kept = tree_ahead first before after w early left given n some on one steps takes kept
+
 -- an event that takes steps of a job, while a call may move data
-pub pays_on : (first before after : Supply) (w : WorldView) (jobs left : List Held) (n : ℕ) → moves_now w ≡ true → Steps n before after → n + steps_ahead left ≤ steps_ahead jobs → IsPaid first before w jobs → IsPaid first after w left
-pays_on first before after w jobs left n moves steps enough was = record {
+pub pays_on : (first before after : Supply) (w : WorldView) (jobs left : List Held) (n : ℕ) → moves_now w ≡ true → Steps n before after → n + steps_ahead left ≤ steps_ahead jobs
+    → IsEarly before after (steps_early jobs) (steps_early left) → IsPaid first before w jobs → IsPaid first after w left
+pays_on first before after w jobs left n moves steps enough early was = record {
   any = both.any;
   ahead = both.ahead;
   quiet = λ quiet. (let never : true ≡ false = sym moves ∙ quiet in cc);
-  names = λ given some. names_later first before after w w given n refl refl steps (was.names given some);
+  tree = λ given some. still_keeps first before after w (steps_early jobs) (steps_early left) given n (was.any.given ∙ some) steps early (was.tree given some);
 } where
   both : IsPaidAny first after w left
   both = pays first before after w w jobs left n was steps (omega (arith, enough))
+
+-- where the power went, with one step more for the calls that are out
+pub pays_acted : (first before after : Supply) (w v : WorldView) (left : OutView) (early most given n : ℕ) → v.start ≡ w.start → v.history ≡ w.history → before.given ≡ Some given → is_on before ≡ true → is_on after ≡ false → most ≤ early + 1
+    → Steps n before after → HaveActed v left most → KeepsTree first before w early given → PaysForActed first after v left given
+pays_acted first before after w v left early most given n start history some on off fewer steps acted kept = record {
+  most = most;
+  tree = tree_off first before after w v early most given n start history some on off fewer steps kept;
+  acted = acted;
+}
 
 pub pays_off : (first before after : Supply) (w : WorldView) (jobs : List Held) (n : ℕ) → moves_now w ≡ true → Steps n before after → n ≤ steps_ahead jobs → IsPaid first before w jobs → IsPaidOff first after w
 pays_off first before after w jobs n moves steps enough was = record {
@@ -67,5 +88,5 @@ pays_off first before after w jobs n moves steps enough was = record {
     bound = omega (arith, was.ahead, steps.bound, enough);
   };
   quiet = λ quiet. (let never : true ≡ false = sym moves ∙ quiet in cc);
-  names = λ given some. names_later first before after w w given n refl refl steps (was.names given some);
+  tree = λ given some. tree_later first before after w w (steps_early jobs) 0 given n refl refl (omega arith) steps (was.tree given some);
 }

@@ -80,9 +80,9 @@ held_set w jobs i h new at own further held = record {
   by j p k at_p (inr two) = held.each j p k at_p two.1
 
 -- likewise where one lost its power
-pub out_set : (w : WorldView) (jobs : List Held) (i : ℕ) (h new : Held) → slice_get jobs i ≡ Some h → new.who ≡ h.who → ((p : JobOut) → IsOut w p h.work → IsOut w p new.work)
-    → AreOut w jobs → AreOut w (slice_set jobs i new)
-out_set w jobs i h new at own further out = record {
+pub out_set : (w : WorldView) (ended : List Who) (jobs : List Held) (i : ℕ) (h new : Held) → slice_get jobs i ≡ Some h → new.who ≡ h.who → ((p : JobOut) → IsOut w p h.work → IsOut w p new.work)
+    → AreOut w ended jobs → AreOut w ended (slice_set jobs i new)
+out_set w ended jobs i h new at own further out = record {
   place = out.place;
   apart = out.apart;
   each = λ j k at_k. by j k (set_cases jobs i j new k below at_k);
@@ -113,7 +113,7 @@ out_set w jobs i h new at own further out = record {
 
 -- and where one is out no more, whose blocks are at home
 pub out_taken : (old new : WorldView) (jobs : List Held) (i : ℕ) (p : JobOut) → slice_get old.pending i ≡ Some p → new.pending ≡ old.pending → OthersStay old new p.who → HaveOwnCallers old.pending
-    → AreBlocksHome p.blocks new.disk.cells → AreHeld old jobs → AreOut new (remove jobs i)
+    → AreBlocksHome p.blocks new.disk.cells → AreHeld old jobs → AreOut new (p.who ∷ []) (remove jobs i)
 out_taken old new jobs i p at same stay callers home held = record {
   place = skip i;
   apart = skip_one i;
@@ -129,8 +129,10 @@ out_taken old new jobs i p at same stay callers home held = record {
   stays : (j : ℕ) (q : JobOut) (h : Held) → slice_get old.pending (skip i j) ≡ Some q → slice_get jobs (skip i j) ≡ Some h → IsOut new q h.work
   stays j q h at_q at_h = work_out new q h.work (work_stays old new p.who q h.work stay (λ one. skip_apart i j (callers (skip i j) i q p at_q at one)) (held.each (skip i j) q h at_q at_h).1)
 
-  by : (q : JobOut) (k : ℕ) → slice_get old.pending k ≡ Some q → (k ≡ i) ⊎ (k ≢ i) → AreBlocksHome q.blocks new.disk.cells ⊎ ((h : Held) × In h (remove jobs i) × IsOut new q h.work)
-  by q k at_q (inl one) = inl (subst (λ (x : JobOut). AreBlocksHome x.blocks new.disk.cells) (same_Some p q (sym at ∙ (ap (slice_get old.pending) (sym one) ∙ at_q))) home)
+  by : (q : JobOut) (k : ℕ) → slice_get old.pending k ≡ Some q → (k ≡ i) ⊎ (k ≢ i) → (In q.who (p.who ∷ []) × AreBlocksHome q.blocks new.disk.cells) ⊎ ((h : Held) × In h (remove jobs i) × IsOut new q h.work)
+  by q k at_q (inl one) =
+      let same : p ≡ q = same_Some p q (sym at ∙ (ap (slice_get old.pending) (sym one) ∙ at_q)) in
+      inl (inl (ap (λ (x : JobOut). x.who) same), subst (λ (x : JobOut). AreBlocksHome x.blocks new.disk.cells) same home)
   by q k at_q (inr other) =
       let j = skip_back i k other in
       let there : slice_get old.pending (skip i j.0) ≡ Some q = ap (slice_get old.pending) j.1 ∙ at_q in

@@ -1,5 +1,5 @@
 -- A job is filled, claims a slot, and its entry is stored and persisted: the World stays.
-use Rattle.std.specs.Prelude.{◌≡◌, ◌<◌, ◌≤◌, ◌+◌, ◌^◌, ℕ, Bool, true, false, List, length, Option, Some, None, Ok, slice_get, slice_set, sum_by, if◌then◌else◌, refl}
+use Rattle.std.specs.Prelude.{◌≡◌, ◌<◌, ◌≤◌, ◌+◌, ◌^◌, ℕ, Bool, true, false, List, [], length, Option, Some, None, Ok, slice_get, slice_set, sum_by, if◌then◌else◌, refl}
 use Rattle.std.specs.List.{remove}
 use Rattle.std.proofs.Common.{arith, ap, ◌∙◌, sym, subst, inl, inr}
 use Rattle.std.proofs.lemmas.Option.{slice_get_within}
@@ -17,6 +17,7 @@ use Rattle.run_laws.specs.round_log.Stores.{HasStored}
 use Rattle.world_view_laws.specs.live_model.Jobs.{SpellCall}
 use Rattle.world_view_laws.specs.live_model.Standing.{JobOut}
 use Rattle.world_view_laws.specs.posix_types.declared.call.Who.{Who}
+use Rattle.world_view_laws.specs.posix_spec.Run.{Unfinished}
 use Rattle.world_view_laws.specs.write_end.Lines.{IsJobLine}
 use Rattle.world_view_laws.specs.write_jobs.Jobs.{FilledView, IsSameJob, JobView}
 use Rattle.world_view_laws.specs.Begins.{IsFilledOut, IsJobOut}
@@ -27,11 +28,11 @@ use Rattle.event_laws.specs.declared.held.Work.{Work}
 use Rattle.event_laws.specs.Between.{Between, events_in, GoesOn, idle_by, left_to_do, LosesPower}
 use Rattle.event_laws.specs.EventsLaws.{ClaimedIsFree, EntryPersisted, EntryStored, FillLoses, held, JobClaims, JobFills, PersistLoses, PersistsEntry, IsHeldAt, StoredIsThere, StoreLoses, StoresEntry, with_log, with_work}
 use Rattle.event_laws.specs.Held.{HasLine, HasLog, IsFull, IsLogOf, IsWorkOut, OutView, slot_in}
-use Rattle.event_laws.specs.Paid.{moves_now, steps_ahead, steps_in}
-use Rattle.event_laws.proofs.Crashes.{held_out, IsLogLeft, IsLogLeftOf, IsOut, log_left, may_crash}
+use Rattle.event_laws.specs.Paid.{early_in, HaveActed, moves_now, steps_ahead, steps_early, steps_in}
+use Rattle.event_laws.proofs.Crashes.{AreOut, have_acted, held_out, IsLogLeft, IsLogLeftOf, IsOut, log_left, may_crash}
 use Rattle.event_laws.proofs.Lines.{changed_holds, changed_round, fresh_line, IsLineLeft, log_changed, log_claimed, log_filled, lost_line, slot_below, stored_over}
 use Rattle.event_laws.proofs.Moves.{call_moves, write_moves}
-use Rattle.event_laws.proofs.Pays.{no_steps, pays_off, pays_on}
+use Rattle.event_laws.proofs.Pays.{IsEarly, no_steps, pays_acted, pays_off, pays_on}
 use Rattle.event_laws.proofs.Places.{at_In, In_at, place_there, set_cases, set_count, sum_set, sum_taken}
 use Rattle.event_laws.proofs.Slots.{slot_there}
 use Rattle.event_laws.proofs.Stays.{held_set, open_calls, out_set}
@@ -76,6 +77,10 @@ module _ (w : WorldView) (out : OutView) (b : Between w out) (i : ℕ) (h : Held
   steps_less : (new : Held) (n : ℕ) → n + steps_in new.work ≤ steps_in h.work → n + steps_ahead (slice_set out.jobs i new) ≤ steps_ahead out.jobs
   steps_less new n enough = let sum = sum_set (λ (x : Held). steps_in x.work) out.jobs i h new at in omega (arith, sum, enough)
 
+  early_less : (before after : Supply) (new : Held) → IsEarly before after (early_in h.work) (early_in new.work) → IsEarly before after (steps_early out.jobs) (steps_early (slice_set out.jobs i new))
+  early_less before after new (inl fewer) = (let sum = sum_set (λ (x : Held). early_in x.work) out.jobs i h new at in inl (omega (arith, sum, fewer)))
+  early_less before after new (inr (one, on, takes)) = (let sum = sum_set (λ (x : Held). early_in x.work) out.jobs i h new at in inr (omega (arith, sum, one), on, takes))
+
   -- a moment between two events again
   module _ (log : Option RoundView) (new : Held) where
     abbrev pub further : OutView
@@ -83,8 +88,8 @@ module _ (w : WorldView) (out : OutView) (b : Between w out) (i : ℕ) (h : Held
 
     pub goes_further : (before after : Supply) (n : ℕ) → new.who ≡ h.who → ((p : JobOut) → slice_get w.pending i ≡ Some p → IsWorkOut w p h.work → IsWorkOut w p new.work)
         → HasLog w log (slice_set out.jobs i new) → ((w.given_up ≡ 0 → ⊥) → IsFull log) → events_in new.work < events_in h.work → n + steps_in new.work ≤ steps_in h.work
-        → Steps n before after → is_on after ≡ true → GoesOn w out w further before after
-    goes_further before after n own still has full less enough steps on = record {
+        → IsEarly before after (early_in h.work) (early_in new.work) → Steps n before after → is_on after ≡ true → GoesOn w out w further before after
+    goes_further before after n own still has full less enough early steps on = record {
       later = record { geometry = refl; start = refl; scripts = refl };
       between = record {
         usable = b.usable;
@@ -109,24 +114,35 @@ module _ (w : WorldView) (out : OutView) (b : Between w out) (i : ℕ) (h : Held
       };
       less = less_work further new refl less;
       on = on;
-      paid = λ first was. pays_on first before after w out.jobs (slice_set out.jobs i new) n job_moves steps (steps_less new n enough) was;
+      paid = λ first was. pays_on first before after w out.jobs (slice_set out.jobs i new) n job_moves steps (steps_less new n enough) (early_less before after new early) was;
     }
 
     -- or the power goes
     pub loses_there : (before after : Supply) (n : ℕ) → new.who ≡ h.who → ((p : JobOut) → IsOut w p h.work → IsOut w p new.work)
-        → IsLogLeftOf w log (slice_set out.jobs i new) → n ≤ steps_in h.work → Steps n before after → is_on after ≡ false → LosesPower None w out w further before after
-    loses_there before after n own still left enough steps off = record {
+        → IsLogLeftOf w log (slice_set out.jobs i new) → n ≤ steps_in h.work → early_in new.work ≤ early_in h.work + 1 → Steps n before after → is_on after ≡ false → LosesPower None w out w further before after
+    loses_there before after n own still left enough one steps off = record {
       later = record { geometry = refl; start = refl; scripts = refl };
       history = refl;
       calls = refl;
       can = record {
         usable = b.usable;
-        crash = may_crash w log (slice_set out.jobs i new) (out_set w out.jobs i h new at own still (held_out w out.jobs b.held)) b.callers b.drafts left;
+        crash = may_crash w [] log (slice_set out.jobs i new) out_now b.callers b.drafts left;
         open_calls = open_calls w b.none_unfinished b.next b.callers;
       };
       off = off;
       paid = λ first was. pays_off first before after w out.jobs n job_moves steps (omega (arith, enough, sum)) was;
+      acted = λ first given on some was.
+          pays_acted first before after w w further (steps_early out.jobs) (steps_early (slice_set out.jobs i new)) given n refl refl (was.any.given ∙ some) on off (omega (arith, early, one)) steps acted_now (was.tree given some);
     } where
+      out_now : AreOut w [] (slice_set out.jobs i new)
+      out_now = out_set w [] out.jobs i h new at own still (held_out w out.jobs b.held)
+
+      acted_now : HaveActed w further (steps_early (slice_set out.jobs i new))
+      acted_now = have_acted w [] (slice_set out.jobs i new) b.callers (steps_early (slice_set out.jobs i new)) (omega (arith, ap (λ (cs : List Unfinished). length cs) b.none_unfinished)) log out_now b.drafts left
+
+      early : steps_early (slice_set out.jobs i new) + early_in h.work ≡ steps_early out.jobs + early_in new.work
+      early = sum_set (λ (x : Held). early_in x.work) out.jobs i h new at
+
       sum : steps_ahead (remove out.jobs i) + steps_in h.work ≡ steps_ahead out.jobs
       sum = sum_taken (λ (x : Held). steps_in x.work) out.jobs i h at
 
@@ -161,7 +177,7 @@ has_filled w (Some log) jobs i h new at none still has = log_filled w log jobs h
 pub job_fills : JobFills
 job_fills who w out i before after job filled b at steps is =
     goes_further w out b i (held who (Work.Began job)) at out.log (held who (Work.Filled filled)) before after (2 ^ 15) refl (λ p at_p was. filled_same w p job filled is.same was.0)
-    (has_filled w out.log out.jobs i (held who (Work.Began job)) (held who (Work.Filled filled)) at refl refl b.log) b.given_up (omega arith) (omega arith) steps is.on
+    (has_filled w out.log out.jobs i (held who (Work.Began job)) (held who (Work.Filled filled)) at refl refl b.log) b.given_up (omega arith) (omega arith) (inl (omega arith)) steps is.on
 
 left_of : (w : WorldView) (o : Option RoundView) (jobs : List Held) → HasLog w o jobs → IsLogLeftOf w o jobs
 left_of w None jobs has = has.0
@@ -170,7 +186,7 @@ left_of w (Some log) jobs has = log_left w log jobs has
 pub fill_loses : FillLoses
 fill_loses who w out i before after job cut b at steps is =
     loses_there w out b i (held who (Work.Began job)) at out.log (held who (Work.Began cut)) before after (2 ^ 15) refl (λ p was. cut_same w p job cut is.same was)
-    (left_of w out.log (slice_set out.jobs i (held who (Work.Began cut))) (has_filled w out.log out.jobs i (held who (Work.Began job)) (held who (Work.Began cut)) at refl refl b.log)) (omega arith) steps is.off
+    (left_of w out.log (slice_set out.jobs i (held who (Work.Began cut))) (has_filled w out.log out.jobs i (held who (Work.Began job)) (held who (Work.Began cut)) at refl refl b.log)) (omega arith) (omega arith) steps is.off
 
 -- ---- it claims a slot
 
@@ -181,7 +197,7 @@ pub job_claims : JobClaims
 job_claims who w out i slot log new power filled b at is on claims =
     goes_further w out b i (held who (Work.Filled filled)) at (Some new) (held who (Work.Claimed filled slot)) power power 0 refl (λ p at_p was. was)
     (log_claimed w log out.jobs (log_there w out b i (held who (Work.Filled filled)) at log is) i (held who (Work.Filled filled)) at new slot filled who refl claims)
-    (λ given. absurd (never_full log new slot claims (subst (λ (o : Option RoundView). IsFull o) is (b.given_up given)))) (omega arith) (omega arith) (no_steps power) on
+    (λ given. absurd (never_full log new slot claims (subst (λ (o : Option RoundView). IsFull o) is (b.given_up given)))) (omega arith) (omega arith) (inl (omega arith)) (no_steps power) on
 
 -- ---- its entry is stored
 
@@ -223,7 +239,7 @@ module _ (w : WorldView) (out : OutView) (b : Between w out) (i : ℕ) (h : Held
     left_stays : (work : Work) → ((m : ℕ) → slot_in work ≡ Some m → line_at changed.lines m ≡ line_at log.lines m) → IsLineLeft w log work → IsLineLeft w changed work
     left_stays (Work.Began job) same left = tt
     left_stays (Work.Filled job) same left = tt
-    left_stays (Work.Claimed job m) same left = subst (λ (x : Part). IsJobLine x.cells (first_of w m) job.draft (w.base + m)) (sym (same m refl)) left
+    left_stays (Work.Claimed job m) same left = subst (λ (x : Part). IsAsAtFirst x.cells (first_of w m)) (sym (same m refl)) left
     left_stays (Work.Stored job m) same left = subst (λ (x : Part). IsJobLine x.cells (first_of w m) job.draft (w.base + m)) (sym (same m refl)) left
     left_stays (Work.Persisted job m) same left = subst (λ (x : Part). IsJobLine x.cells (first_of w m) job.draft (w.base + m)) (sym (same m refl)) left
 
@@ -254,7 +270,7 @@ module _ (who : Who) (w : WorldView) (out : OutView) (i slot : ℕ) (log new : R
       (log_changed w log out.jobs log_now i at_claim at new slot (held who (Work.Stored filled slot)) refl refl stores.line
       (subst (λ (base : ℕ). HasStored (line_at log_now.start slot).cells (entry_words filled.draft (base + slot)) true (line_at new.lines slot).cells) (sym stores.line.base)
       (subst (λ (o : Bool). HasStored (line_at log_now.start slot).cells (entry_words filled.draft (log.base + slot)) o (line_at new.lines slot).cells) on has_stored)))
-      (still_full w out b i at_claim at log is slot refl new stores.line) (omega arith) (omega arith) stores.steps on
+      (still_full w out b i at_claim at log is slot refl new stores.line) (omega arith) (omega arith) (inr (omega arith, on, stores.took on)) stores.steps on
 
   pub stored_off : is_on after ≡ false → LosesPower None w out w (with_work (with_log out new) i (held who (Work.Stored filled slot))) before after
   stored_off off =
@@ -262,7 +278,7 @@ module _ (who : Who) (w : WorldView) (out : OutView) (i slot : ℕ) (log new : R
       (log_lost w out b i at_claim at log is slot refl new (held who (Work.Stored filled slot)) refl stores.line
       (inr (stored_over (first_of w slot) (line_at log_now.start slot).cells (first_line w out b i at_claim at log is slot refl) (entry_words filled.draft (w.base + slot)) (is_on after) (line_at new.lines slot).cells
       (subst (λ (base : ℕ). HasStored (line_at log_now.start slot).cells (entry_words filled.draft (base + slot)) (is_on after) (line_at new.lines slot).cells) log_now.base has_stored))))
-      (omega arith) stores.steps off
+      (omega arith) (omega arith) stores.steps off
 
 pub entry_stored : EntryStored
 entry_stored who w out i slot log new before after filled b at is stores on = stored_on who w out i slot log new before after filled b at is stores on
@@ -295,7 +311,7 @@ module _ (who : Who) (w : WorldView) (out : OutView) (i slot : ℕ) (log new : R
       (log_changed w log out.jobs log_then i at_store at new slot (held who (Work.Persisted filled slot)) refl refl persists.line
       (subst (λ (base : ℕ). HoldsEntry (line_at new.lines slot).cells filled.draft (base + slot)) (sym persists.line.base)
       (subst (λ (o : Bool). Holds (if o then Written else Lost) filled.draft (log.base + slot) (line_at log_then.start slot).cells (line_at new.lines slot).cells) on line_holds)))
-      (still_full w out b i at_store at log is slot refl new persists.line) (omega arith) (omega arith) persists.steps on
+      (still_full w out b i at_store at log is slot refl new persists.line) (omega arith) (omega arith) (inl (omega arith)) persists.steps on
 
   pub persisted_off : is_on after ≡ false → LosesPower None w out w (with_work (with_log out new) i (held who (Work.Stored filled slot))) before after
   persisted_off off =
@@ -303,7 +319,7 @@ module _ (who : Who) (w : WorldView) (out : OutView) (i slot : ℕ) (log new : R
       (log_lost w out b i at_store at log is slot refl new at_store refl persists.line
       (lost_line w slot filled.draft (log.base + slot) (line_at log_then.start slot).cells (line_at new.lines slot).cells (ap (λ (base : ℕ). base + slot) log_then.base) (first_line w out b i at_store at log is slot refl)
       (subst (λ (o : Bool). Holds (if o then Written else Lost) filled.draft (log.base + slot) (line_at log_then.start slot).cells (line_at new.lines slot).cells) off line_holds)))
-      (omega arith) persists.steps off
+      (omega arith) (omega arith) persists.steps off
 
 pub entry_persisted : EntryPersisted
 entry_persisted who w out i slot log new before after filled b at is persists on = persisted_on who w out i slot log new before after filled b at is persists on

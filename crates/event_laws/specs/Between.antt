@@ -1,8 +1,6 @@
 -- The moments between two events of a run, for any number of callers, and what an event leaves.
 use Rattle.std.specs.Prelude.{◌≡◌, ◌≢◌, ◌⊎◌, ◌≤◌, ◌<◌, ◌+◌, ◌-◌, ◌*◌, ◌^◌, ℕ, true, false, nat_lt, List, [], ◌∷◌, ◌++◌, length, Option, Some, None, slice_get, sum_by, if◌then◌else◌}
-use Rattle.run_laws.specs.round_log.pm_model.Parts.{Part}
 use Rattle.run_laws.specs.round_log.pm_model.Powers.{is_on, Supply}
-use Rattle.run_laws.specs.round_log.Rounds.{RoundView}
 use Rattle.world_view_laws.specs.crash_spec.ScheduleLaws.{may_write}
 use Rattle.world_view_laws.specs.list_laws.Members.{In}
 use Rattle.world_view_laws.specs.posix_types.declared.call.Call.{Call}
@@ -15,8 +13,8 @@ use Rattle.world_view_laws.specs.live_model.Standing.{JobOut}
 use Rattle.world_view_laws.specs.Views.{calls_out, HasNone, next_of, WorldView}
 use Rattle.event_laws.specs.declared.held.Held.{Held}
 use Rattle.event_laws.specs.declared.held.Work.{Work}
-use Rattle.event_laws.specs.Held.{AreHeld, filled_of, HasLog, IsFull, jobs_of, OutView}
-use Rattle.event_laws.specs.Paid.{IsPaid, IsPaidOff, moves_now}
+use Rattle.event_laws.specs.Held.{AreHeld, filled_of, HasLog, IsFull, jobs_of, lines_in, OutView}
+use Rattle.event_laws.specs.Paid.{IsPaid, IsPaidOff, moves_now, PaysForActed}
 
 -- each job is of the next call of its caller, which may come
 abbrev pub AreNextCalls : WorldView → Type 0
@@ -62,11 +60,6 @@ pub record Between (w : WorldView) (out : OutView) : Type 0 where
   pub late : w.over ≢ None → (w.pending ≢ []) ⊎ ((w.given_up ≡ 0 → ⊥) ⊎ (w.settled < length w.history))
   pub moves : w.over ≢ None → moves_now w ≡ true
   pub waits : w.over ≢ None → IsWaiting w
-
--- the lines that are out
-abbrev pub lines_in : Option RoundView → List Part
-lines_in None = []
-lines_in (Some log) = log.lines
 
 -- A CRASH MAY COME: what is out is what it asks for, and the calls that are out are the next of their callers, one each.
 pub record CanCrash (w : WorldView) (out : OutView) : Type 0 where
@@ -121,7 +114,8 @@ abbrev pub AreCallsLeft : Option Who → WorldView → WorldView → Type 0
 AreCallsLeft None old new = calls_out new ≡ calls_out old
 AreCallsLeft (Some who) old new = (calls_out new ≡ calls_out old) ⊎ ((call : Call) × (next_of old who ≡ Some call) × (calls_out new ≡ calls_out old ++ (who, call) ∷ []))
 
--- or the power went, as this caller began its next call, or as no call began: nothing returned, and a crash may come.
+-- or the power went, as this caller began its next call, or as no call began: nothing returned, and a crash may come; and where it was on
+-- before, each call that is out and acted took a step.
 pub record LosesPower (begins : Option Who) (old : WorldView) (out : OutView) (new : WorldView) (left : OutView) (before after : Supply) : Type 0 where
   pub later : IsLater old new
   pub history : new.history ≡ old.history
@@ -129,3 +123,4 @@ pub record LosesPower (begins : Option Who) (old : WorldView) (out : OutView) (n
   pub can : CanCrash new left
   pub off : is_on after ≡ false
   pub paid : (first : Supply) → IsPaid first before old out.jobs → IsPaidOff first after new
+  pub acted : (first : Supply) (given : ℕ) → is_on before ≡ true → first.given ≡ Some given → IsPaid first before old out.jobs → PaysForActed first after new left given

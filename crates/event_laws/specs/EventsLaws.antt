@@ -11,6 +11,7 @@ use Rattle.run_laws.specs.round_log.pm_model.Powers.{is_on, Steps, Supply}
 use Rattle.run_laws.specs.round_log.Rounds.{ChangesLine, IsClaimed, RoundView}
 use Rattle.run_laws.specs.round_log.Stores.{HasStored, Persists}
 use Rattle.world_view_laws.specs.in_flight.Costs.{most_of}
+use Rattle.world_view_laws.specs.k_journal.Commits.{TakesAStep}
 use Rattle.world_view_laws.specs.live_model.Standing.{JobOut}
 use Rattle.world_view_laws.specs.posix_types.declared.call.Mode.{Mode}
 use Rattle.world_view_laws.specs.posix_types.declared.call.Who.{Who}
@@ -25,7 +26,7 @@ use Rattle.event_laws.specs.declared.held.Held.{Held}
 use Rattle.event_laws.specs.declared.held.Work.{Work}
 use Rattle.event_laws.specs.Between.{Between, CanCrash, GoesOn, left_to_do, LosesPower}
 use Rattle.event_laws.specs.Held.{nothing_out, OutView}
-use Rattle.event_laws.specs.Paid.{IsPaid, IsPaidOff}
+use Rattle.event_laws.specs.Paid.{IsPaid, IsPaidOff, PaysForActed}
 
 -- ---- what is out, with a change
 
@@ -152,9 +153,10 @@ ClaimedIsFree =
     (who : Who) (w : WorldView) (out : OutView) (i slot : ℕ) (log : RoundView) (filled : FilledView) → Between w out → IsHeldAt out i who (Work.Claimed filled slot) → out.log ≡ Some log
     → (slot < length log.lines) × IsSingle (line_at log.lines slot).cells
 
--- The entry is stored into it, as far as the power lasts.
+-- The entry is stored into it, as far as the power lasts; where it does a step was taken.
 pub record StoresEntry (log new : RoundView) (slot : ℕ) (d : Draft) (before after : Supply) : Type 0 where
   pub steps : Steps 8 before after
+  pub took : is_on after ≡ true → TakesAStep before after
   pub line : ChangesLine slot log new
   pub has : HasStored (line_at log.lines slot).cells (entry_words d (log.base + slot)) (is_on after) (line_at new.lines slot).cells
 
@@ -251,6 +253,11 @@ AffordsLost =
 
 abbrev pub PaidIsPaidOff : Type 0
 PaidIsPaidOff = (w : WorldView) (out : OutView) (first now : Supply) → IsPaid first now w out.jobs → IsPaidOff first now w
+
+-- Between two events, too, each call that is out and acted took a step.
+abbrev pub ActedBetween : Type 0
+ActedBetween =
+    (w : WorldView) (out : OutView) (first now : Supply) (given : ℕ) → Between w out → first.given ≡ Some given → IsPaid first now w out.jobs → PaysForActed first now w out given
 
 abbrev pub AffordsWhole : Type 0
 AffordsWhole =

@@ -109,6 +109,11 @@ abbrev pub HasLog : WorldView → Option RoundView → List Held → Type 0
 HasLog w None jobs = (w.lines_out ≡ false) × (w.claims ≡ []) × (jobs ≡ [])
 HasLog w (Some log) jobs = IsLogOf w log jobs
 
+-- the lines that are out
+abbrev pub lines_in : Option RoundView → List Part
+lines_in None = []
+lines_in (Some log) = log.lines
+
 -- all its slots are claimed
 abbrev pub IsFull : Option RoundView → Type 0
 IsFull None = ⊥

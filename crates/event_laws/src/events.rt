@@ -4,6 +4,7 @@
 //! that makes the event asks for.
 
 ghost use Rattle.event_laws.specs.EventsLaws.{
+  ActedBetween,
   AffordsLost,
   AffordsWhole,
   BeginLoses,
@@ -69,10 +70,11 @@ pub fn a_round_goes_on()
     ensures crashes { CrashesBetween }
 {}
 
-/// A run ends where all calls returned; its steps are afforded.
+/// A run ends where all calls returned; its steps are afforded; and each call that is out and acted took a step.
 pub fn a_run_ends()
     ensures may { MayEnd }
     ensures lost { AffordsLost }
     ensures cut { PaidIsPaidOff }
+    ensures acted { ActedBetween }
     ensures whole { AffordsWhole }
 {}

@@ -2,8 +2,8 @@
 //!
 //! Between two events nothing is out of a World but the log of its round and the logged calls that have not
 //! finished, each as far as it came (`Between`). The layer above may rely on this: each event leads from there to
-//! such a moment again, with less left to do (`GoesOn`), or to a power loss (`LosesPower`); it is paid for; and at
-//! any such moment a crash may come (`CanCrash`).
+//! such a moment again, with less left to do (`GoesOn`), or to a power loss (`LosesPower`); it is paid for, and so is
+//! each unfinished call that acted (`PaysForActed`); and at any such moment a crash may come (`CanCrash`).
 //!
 //! - `events`: The laws of a run, one an event.
 //! - `held`: A logged call that is out of a World, as far as it came.

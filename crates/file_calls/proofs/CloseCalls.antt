@@ -38,7 +38,7 @@ use Rattle.open_files.specs.posix_spec.Tree.{tree}
 use Rattle.live_step_laws.specs.world_model.Stands.{is_used, number}
 use Rattle.live_step_laws.specs.world_model.TreeRules.{used_below}
 use Rattle.live_step_laws.specs.world_image_laws.Settings.{keeps_setting}
-use Rattle.live_step_laws.specs.world_image_laws.Unseen.{tree-swept}
+use Rattle.live_step_laws.specs.world_image_laws.Unseen.{tree-swept, tree_close}
 use Rattle.live_step_laws.specs.world_step_laws.OtherCalls.{IsWorld-closed, IsWorld-same}
 use Rattle.live_step_laws.specs.world_step_laws.RemoveCalls.{swept-gone}
 use Rattle.live_step_laws.specs.world_step_laws.Nameless.{count-nameless, is_named-nameless}
@@ -52,7 +52,7 @@ use Rattle.live_step_laws.specs.k_split_laws.Ends.{not_root_number}
 use Rattle.file_calls.specs.Answers.{ComesHalfWay, IsEnded, IsReplyOf, IsSpent}
 use Rattle.file_calls.specs.Runs.{RunsAs, with_files}
 use Rattle.file_calls.specs.declared.names.outcomes.Told.{Told}
-use Rattle.file_calls.proofs.CallTables.{swept_entries, swept_tables}
+use Rattle.file_calls.proofs.CallTables.{swept_tables}
 use Rattle.file_calls.proofs.Halves.{named_there}
 use Rattle.file_calls.proofs.Running.{runs_still, world}
 use Rattle.file_calls.proofs.Shut.{GoOn-shut}
@@ -123,12 +123,6 @@ module _ (who : Who) (h : Handle) (k : View) (t t2 : Tables) (fs : Files) (d : D
         ∙ same_open (number runs.numbers) t2 d.node (λ other open_other same.
         here.valid.stands.names.one other d.node (ap is_used (files_closed other open_other)) (ap is_used file_kind) same)
 
-    close_entries : (after_call s (who, Call.Close h)).entries ≡ s.entries
-    unfolding close_done with_published
-    close_entries =
-        let file = file_number s.tables who h in
-        ap (λ y. y.state.entries) close_step ∙ swept_entries (record (with_published s file) { tables = closed s.tables who h }) file
-
     close_tables : (after_call s (who, Call.Close h)).tables ≡ closed s.tables who h
     unfolding close_done
     close_tables =
@@ -164,6 +158,9 @@ module _ (who : Who) (h : Handle) (k : View) (t t2 : Tables) (fs : Files) (d : D
     other : number runs.numbers d.node ≢ 0
     other = not_root_number k.volume x.claims runs.jobs (journaled (words_of k.cells)) runs.numbers s runs.count d.node here (ap is_used file_kind) (ap is_directory file_kind)
 
+    close_tree : tree (after_call s (who, Call.Close h)) ≡ tree s
+    close_tree = tree_close s who h (λ root. other (sym file_is ∙ root))
+
     unnamed_there : names_of k.volume.names d.node ≡ 0 → is_named s.entries (number runs.numbers d.node) ≡ false
     unnamed_there none =
         is_named-nameless k.volume runs.numbers s d.node here.valid.stands.sane here.valid.stands.names (ap is_used file_kind) (count-nameless k.volume.names d.node none)
@@ -184,7 +181,7 @@ module _ (who : Who) (h : Handle) (k : View) (t t2 : Tables) (fs : Files) (d : D
   close_replies g x n s runs = close_outcome g x n s runs
 
   pub close_spent : (old new : Supply) → IsSpent who (Call.Close h) k t fs old new
-  close_spent old new g x n s runs = inl (close_entries g x n s runs)
+  close_spent old new g x n s runs = inl (close_tree g x n s runs)
 
   -- THE FILE STAYS: it has a name, or is open still.
   pub close_stays : (old new : Supply) → (0 < names_of k.volume.names d.node) ⊎ (is_open t2 d.node ≡ true) → is_on new ≡ true

@@ -37,7 +37,8 @@ use Rattle.live_step_laws.specs.world_model.Jobs.{live_claims}
 use Rattle.live_step_laws.specs.world_model.Stands.{entries_of, is_used}
 use Rattle.live_step_laws.specs.world_model.TreeRules.{used_below}
 use Rattle.live_step_laws.specs.world_step_laws.Steps.{LetsJobsBe}
-use Rattle.live_step_laws.specs.k_split_laws.Cuts.{cut_kind, cuts_as_answer, steps_cut}
+use Rattle.live_step_laws.specs.k_split_laws.Cuts.{cut_kind, cuts_as_answer}
+use Rattle.live_step_laws.specs.k_split_laws.DeviceSteps.{steps_cut}
 use Rattle.live_step_laws.specs.k_split_laws.Going.{IsStep}
 use Rattle.live_step_laws.specs.k_split_laws.Laws.{cut_to_nothing}
 use Rattle.live_step_laws.specs.live_model.Standing.{Kept}

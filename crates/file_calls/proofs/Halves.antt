@@ -56,11 +56,10 @@ use Rattle.live_step_laws.specs.world_model.Stands.{is_used, number}
 use Rattle.live_step_laws.specs.world_image_laws.Back.{IsKeptBack}
 use Rattle.live_step_laws.specs.world_image_laws.LentLaws.{LeadsTo}
 use Rattle.live_step_laws.specs.world_step_laws.RemoveCalls.{swept-named, swept-open}
+use Rattle.live_step_laws.specs.k_split_laws.DeviceSteps.{renames_over_file, state_unlink, steps_dropped, steps_rename, steps_unlinked, tree_of_rename, tree_of_unlink, unlinks_file}
 use Rattle.live_step_laws.specs.k_split_laws.Done.{keeps_image_between, keeps_image_cut, same_blocks}
-use Rattle.live_step_laws.specs.k_split_laws.Ends.{not_root_number, renames_over_file, tree_of_rename, tree_of_unlink}
+use Rattle.live_step_laws.specs.k_split_laws.Ends.{not_root_number}
 use Rattle.live_step_laws.specs.k_split_laws.Going.{gone_by, IsStep, moved_so_far}
-use Rattle.live_step_laws.specs.k_split_laws.Moves.{steps_rename}
-use Rattle.live_step_laws.specs.k_split_laws.Steps.{state_unlink, steps_dropped, steps_unlinked, unlinks_file}
 use Rattle.live_step_laws.specs.k_split_laws.Sweeps.{leads_swept}
 use Rattle.live_step_laws.specs.live_model.Losses.{KeepsWhenLost}
 use Rattle.live_step_laws.specs.live_model.Standing.{Kept, StandsAt}
@@ -213,7 +212,7 @@ module _ (who : Who) (call : Call) (k k1 : View) (t t1 : Tables) (f : Files) (o 
 
   still_spent : (new : Supply) → Steps 256 middle new → IsSpent who call k t f old new
   still_spent new steps g x n s runs = by (spent g x n s runs) where
-    by : ((after_call s (who, call)).entries ≡ s.entries) ⊎ TakesAStep old middle → ((after_call s (who, call)).entries ≡ s.entries) ⊎ TakesAStep old new
+    by : (tree (after_call s (who, call)) ≡ tree s) ⊎ TakesAStep old middle → (tree (after_call s (who, call)) ≡ tree s) ⊎ TakesAStep old new
     by (inl same) = inl same
     by (inr taken) = inr (λ given is. (let was = taken given is in omega (arith, was, steps.later)))
 

@@ -1,4 +1,5 @@
 mod CallTables
+mod Trees
 pub mod Running
 mod NameCalls
 mod Halves

@@ -39,10 +39,8 @@ use Rattle.open_files.specs.posix_spec.Step.{step}
 use Rattle.live_step_laws.specs.world_model.Stands.{is_used, number}
 use Rattle.live_step_laws.specs.world_model.TreeRules.{used_below}
 use Rattle.live_step_laws.specs.world_step_laws.Makers.{renumbered, renumbered-other}
-use Rattle.live_step_laws.specs.k_split_laws.Ends.{done_by_row}
+use Rattle.live_step_laws.specs.k_split_laws.DeviceSteps.{done_by_row, steps_mkdir, steps_rename, steps_rmdir}
 use Rattle.live_step_laws.specs.k_split_laws.Going.{gone_by, IsNameCall, IsStep, row_of_call}
-use Rattle.live_step_laws.specs.k_split_laws.Moves.{steps_rename}
-use Rattle.live_step_laws.specs.k_split_laws.Steps.{steps_mkdir, steps_rmdir}
 use Rattle.file_calls.specs.Answers.{Answers, IsEnded, told_of}
 use Rattle.file_calls.specs.Runs.{RunsAs, with_files}
 use Rattle.file_calls.specs.declared.names.outcomes.Told.{Told}

@@ -48,6 +48,7 @@ use Rattle.open_files.specs.posix_spec.FileRows.{dup_rows}
 use Rattle.open_files.specs.posix_spec.Run.{after_call, run}
 use Rattle.open_files.specs.posix_spec.State.{alone, made as made_state, space, State, with_node}
 use Rattle.open_files.specs.posix_spec.Step.{dup_done, empty_file, is_busy, open_done, opening, opening_number, stat_done, stat_of, step, stepped}
+use Rattle.open_files.specs.posix_spec.Tree.{tree}
 use Rattle.live_step_laws.specs.world_model.Stands.{is_used, IsUsed, NodeStands, number}
 use Rattle.live_step_laws.specs.world_model.Jobs.{live_claims}
 use Rattle.live_step_laws.specs.world_image_laws.Settings.{keeps_setting}
@@ -58,7 +59,7 @@ use Rattle.live_step_laws.specs.world_step_laws.Makers.{renumbered, renumbered-o
 use Rattle.live_step_laws.specs.world_step_laws.Steps.{GoOn-call, LetsJobsBe, shown_node}
 use Rattle.live_step_laws.specs.world_step_laws.Worlds.{world_mirror}
 use Rattle.live_step_laws.specs.k_split_laws.Going.{IsStep}
-use Rattle.live_step_laws.specs.k_split_laws.Steps.{steps_opened}
+use Rattle.live_step_laws.specs.k_split_laws.DeviceSteps.{steps_opened}
 use Rattle.live_step_laws.specs.live_model.Standing.{Kept}
 use Rattle.file_calls.specs.Answers.{Answers, IsEnded, IsMissing, stat_by, told_of}
 use Rattle.file_calls.specs.Runs.{RunsAs, with_files}
@@ -66,6 +67,7 @@ use Rattle.file_calls.specs.declared.names.outcomes.Told.{Told}
 use Rattle.file_calls.proofs.NameCalls.{files_made, made_left, tables_renumbered, took}
 use Rattle.file_calls.proofs.Paths.{open_made_rows, used_at}
 use Rattle.file_calls.proofs.Running.{fault_ended, idle_on, leads_end, loses_cut, runs_still, world}
+use Rattle.file_calls.proofs.Trees.{tree_shown}
 
 -- ---- what runs says of the volume and the state
 
@@ -177,7 +179,7 @@ module _ (who : Who) (h to : Handle) (k : View) (t t2 : Tables) (fs : Files) (fd
 
   pub dup_ended : is_on new ≡ true → IsEnded who (Call.Dup h to) k t fs k t2 fs old new (Ok (Told.Answered (answer (Reply.Fd fd))))
   unfolding dup_done
-  dup_ended on = (dup_answers, on, λ g x n s runs. inl (ap (λ y. y.state.entries) (dup_step g (with_files x fs) n s runs)))
+  dup_ended on = (dup_answers, on, λ g x n s runs. inl (ap (λ y. tree y.state) (dup_step g (with_files x fs) n s runs)))
 
 -- ---- open
 
@@ -269,7 +271,7 @@ module _ (who : Who) (h : Handle) (p : List (List ℕ)) (f : Flags) (k : View) (
   pub opened_ended : (t2 : Tables) (fd : ℕ) (old new : Supply) → first (open_rows (volume_space k.volume) (is_full t) false p f) ≡ None → free_descriptor t ≡ Some fd → t2 ≡ with_opened t who h (opening_of ino f) → is_on new ≡ true
       → IsEnded who (Call.Open h p f) k t fs k t2 fs old new (Ok (Told.Answered (answer (Reply.Fd fd))))
   unfolding open_done
-  opened_ended t2 fd old new none free t2_is on = (answers, on, λ g x n s runs. inl (opened_shown none g x n s runs).entries) where
+  opened_ended t2 fd old new none free t2_is on = (answers, on, λ g x n s runs. inl (tree_shown s (after_call s (who, Call.Open h p f)) (opened_shown none g x n s runs))) where
     answers : Answers who (Call.Open h p f) k t fs k t2 fs (answer (Reply.Fd fd))
     answers g x n s small runs lets = (
       runs_still g k t t2 (with_files x fs) n s (after_call s (who, Call.Open h p f)) runs (keeps_setting s (who, Call.Open h p f)).shape (keeps_setting s (who, Call.Open h p f)).mode

@@ -47,6 +47,7 @@ use Rattle.open_files.specs.posix_spec.FileRows.{content, file_number, offset_of
 use Rattle.open_files.specs.posix_spec.Run.{after_call}
 use Rattle.open_files.specs.posix_spec.State.{State}
 use Rattle.open_files.specs.posix_spec.Step.{pread_done, read_done, step, stepped}
+use Rattle.open_files.specs.posix_spec.Tree.{tree}
 use Rattle.live_step_laws.specs.live_model.Overlays.{IsOverlayOf}
 use Rattle.live_step_laws.proofs.live_model_proofs.OverlaysOverlays.{reads_file}
 use Rattle.live_step_laws.specs.world_model.Jobs.{live_claims}
@@ -252,4 +253,4 @@ module _ (who : Who) (h : Handle) (k : View) (t : Tables) (fs : Files) (power : 
 
     pub read_ended : IsEnded who (Call.Read h count) k t fs k t2 fs power power (Ok (Told.Answered (answer (Reply.Bytes bytes))))
     unfolding read_done
-    read_ended = (read_answers, on, λ g x n s runs. inl (ap (λ y. y.state.entries) (read_step g (with_files x fs) n s runs)))
+    read_ended = (read_answers, on, λ g x n s runs. inl (ap (λ y. tree y.state) (read_step g (with_files x fs) n s runs)))

@@ -30,6 +30,7 @@ use Rattle.open_files.specs.posix_tables.Outcomes.{answer}
 use Rattle.open_files.specs.posix_spec.Run.{after_call, Unfinished, run}
 use Rattle.open_files.specs.posix_spec.State.{alone, room, State}
 use Rattle.open_files.specs.posix_spec.Step.{step}
+use Rattle.open_files.specs.posix_spec.Tree.{tree}
 use Rattle.open_files.specs.commute_laws.Frames.{AreThreads}
 use Rattle.open_files.specs.commute_laws.Needs.{IsApart, needs}
 use Rattle.live_step_laws.specs.commute_laws.Commutes.{takes}
@@ -45,8 +46,8 @@ use Rattle.live_step_laws.specs.world_image_laws.Flights.{leads_after, leads_bef
 use Rattle.live_step_laws.specs.world_image_laws.LentLaws.{LeadsTo}
 use Rattle.live_step_laws.specs.world_step_laws.Steps.{begun-flights, flight_of, flights_of, LetsJobsBe}
 use Rattle.live_step_laws.specs.world_step_laws.Worlds.{IsIdle, IsWorld}
+use Rattle.live_step_laws.specs.k_split_laws.DeviceSteps.{refused_by_row}
 use Rattle.live_step_laws.specs.k_split_laws.Done.{keeps_image_cut, keeps_image_off}
-use Rattle.live_step_laws.specs.k_split_laws.Ends.{refused_by_row}
 use Rattle.live_step_laws.specs.k_split_laws.Going.{IsGoing, IsNameCall, IsStep, row_of_call}
 use Rattle.live_step_laws.specs.live_model.Standing.{AreJobsOf, AreOfTwoThreads, Kept, JobOut}
 use Rattle.live_step_laws.proofs.Standing.{stands_still}
@@ -136,7 +137,7 @@ answers_nothing who call k t f o stays g x n s small runs lets =
 
 pub spent_nothing : (who : Who) (call : Call) (k : View) (t : Tables) (f : Files) (o : Outcome) (old new : Supply)
     → ((g : Geometry) (x : Kept) (n : ℕ) (s : State) → RunsAs g k t (with_files x f) n s → step s who call ≡ record { state = s; outcome = o }) → IsSpent who call k t f old new
-spent_nothing who call k t f o old new stays g x n s runs = inl (ap (λ z. z.state.entries) (stays g x n s runs))
+spent_nothing who call k t f o old new stays g x n s runs = inl (ap (λ z. tree z.state) (stays g x n s runs))
 
 pub nothing_ended : (who : Who) (call : Call) (k k2 : View) (t : Tables) (f : Files) (o : Outcome) (old new : Supply) → k2 ≡ k → is_on new ≡ true
     → ((g : Geometry) (x : Kept) (n : ℕ) (s : State) → RunsAs g k t (with_files x f) n s → step s who call ≡ record { state = s; outcome = o })

@@ -16,10 +16,11 @@ use Rattle.posix_tables.specs.declared.open.Description.{Description}
 use Rattle.posix_tables.specs.Bytes.{moved_place}
 use Rattle.posix_tables.specs.Open.{key_of, opened, Tables, with_offset}
 use Rattle.posix_tables.specs.Outcomes.{answer, first, row}
-use Rattle.open_files.specs.posix_spec.FileRows.{seek_base, seek_rows, seek_target}
+use Rattle.open_files.specs.posix_spec.FileRows.{file_number, seek_base, seek_rows, seek_target}
 use Rattle.open_files.specs.posix_spec.Run.{after_call}
 use Rattle.open_files.specs.posix_spec.State.{State, with_published}
 use Rattle.open_files.specs.posix_spec.Step.{fsync_done, seek_done, step, stepped}
+use Rattle.open_files.specs.posix_spec.Tree.{tree}
 use Rattle.live_step_laws.specs.world_model.Stands.{number}
 use Rattle.live_step_laws.specs.live_model.Standing.{Kept}
 use Rattle.file_calls.specs.Answers.{Answers, IsEnded}
@@ -29,6 +30,7 @@ use Rattle.file_calls.specs.Runs.{RunsAs, with_files}
 use Rattle.file_calls.specs.declared.names.outcomes.Told.{Told}
 use Rattle.file_calls.proofs.CloseCalls.{handle_there}
 use Rattle.file_calls.proofs.Running.{idle_on, nothing_ended}
+use Rattle.file_calls.proofs.Trees.{tree_published}
 
 -- a handle that stands for nothing
 pub seek_unknown : (who : Who) (h : Handle) (w : Whence) (by : ℤ) (k : View) (t : Tables) (fs : Files) (power : Supply) → is_on power ≡ true → opened t who h ≡ None
@@ -65,7 +67,7 @@ module _ (who : Who) (h : Handle) (w : Whence) (by : ℤ) (k : View) (t : Tables
   pub seek_ended : (m : ℕ) (t2 : Tables) → moved_place (base_by d.offset (size_in fs d.node) w) by ≡ Some m → t2 ≡ with_offset t (unwrap_or (key_of t who h) 0) m
       → IsEnded who (Call.Seek h w by) k t fs k t2 fs power power (Ok (Told.Answered (answer (Reply.Offset m))))
   unfolding seek_done
-  seek_ended m t2 is t2_is = (answers, on, λ g x n s runs. inl (ap (λ y. y.state.entries) (seek_step m is g x n s runs))) where
+  seek_ended m t2 is t2_is = (answers, on, λ g x n s runs. inl (ap (λ y. tree y.state) (seek_step m is g x n s runs))) where
     place_is : (g : Geometry) (x : Kept) (n : ℕ) (s : State) → RunsAs g k t (with_files x fs) n s → unwrap_or (seek_target s who h w by) 0 ≡ m
     place_is g x n s runs = ap (λ (o : Option ℕ). unwrap_or o 0) (target_is g x n s runs ∙ is)
 
@@ -91,7 +93,7 @@ sync_unknown who h k t fs power on none =
 pub sync_ended : (who : Who) (h : Handle) (k : View) (t : Tables) (fs : Files) (power : Supply) → is_on power ≡ true → (d : Description) → opened t who h ≡ Some d
     → IsEnded who (Call.Fsync h) k t fs k t fs power power (Ok (Told.Answered (answer Reply.Ok)))
 unfolding fsync_done with_published
-sync_ended who h k t fs power on d known = (answers, on, λ g x n s runs. inl (ap (λ y. y.state.entries) (sync_step g (with_files x fs) n s runs))) where
+sync_ended who h k t fs power on d known = (answers, on, λ g x n s runs. inl (ap (λ y. tree y.state) (sync_step g (with_files x fs) n s runs) ∙ tree_published s (file_number s.tables who h))) where
   sync_step : (g : Geometry) (x : Kept) (n : ℕ) (s : State) → RunsAs g k t x n s → step s who (Call.Fsync h) ≡ fsync_done s who h
   sync_step g x n s runs = ap (λ (o : Option Description). stepped s (first (row (is_none o) Errno.EBADF ∷ [])) (fsync_done s who h)) (handle_there g k t x n s runs who h (Some d) known)
 

@@ -64,11 +64,11 @@ LeavesDevice who call k t f k2 =
     (g : Geometry) (x : Kept) (n : ℕ) (s : State) → n + 1 < 2 ^ 31 → (runs : RunsAs g k t (with_files x f) n s)
     → LetsJobsBe s (who, call) runs.numbers runs.jobs → IsLeftOf g k.cells k2.cells
 
--- It made, removed or moved no name, or took a step.
+-- It left the tree as it is, or took a step.
 abbrev pub IsSpent : Who → Call → View → Tables → Files → Supply → Supply → Type 0
 IsSpent who call k t f old new =
     (g : Geometry) (x : Kept) (n : ℕ) (s : State) → RunsAs g k t (with_files x f) n s
-    → ((after_call s (who, call)).entries ≡ s.entries) ⊎ TakesAStep old new
+    → (tree (after_call s (who, call)) ≡ tree s) ⊎ TakesAStep old new
 
 -- WHAT A CALL ANSWERS AND LEAVES, and what it takes of the power: it is done, with the power on; the power went, and is off;
 -- or memory ran out, and all is as before.

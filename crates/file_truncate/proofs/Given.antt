@@ -3,7 +3,7 @@ use Rattle.std.specs.Prelude.{◌≡◌, ◌≢◌, ◌≤◌, ◌<◌, ◌+◌,
 use Rattle.std.proofs.Common.{arith, ap, ◌∙◌, sym, subst, inl, inr}
 use Rattle.in_place.specs.pm_model.declared.Cell.{Cell}
 use Rattle.in_place.specs.pm_model.Images.{IsImage}
-use Rattle.in_place.specs.pm_model.Powers.{is_on, Supply}
+use Rattle.in_place.specs.pm_model.Powers.{is_on, Steps, Supply}
 use Rattle.in_place.specs.pm_model.Words.{Words}
 use Rattle.in_place.specs.layout_model.Journal.{journaled}
 use Rattle.in_place.specs.layout_model.Places.{Geometry}
@@ -32,6 +32,7 @@ use Rattle.in_place.specs.write_plan.posix_spec.FileRows.{content, truncate_rows
 use Rattle.in_place.specs.write_plan.crash_spec.Busy.{waits_for}
 use Rattle.in_place.specs.write_plan.posix_spec.Run.{run}
 use Rattle.in_place.specs.write_plan.posix_spec.State.{room, State}
+use Rattle.in_place.specs.write_plan.posix_spec.Tree.{tree}
 use Rattle.in_place.specs.write_plan.Numbers.{RoomIsKept}
 use Rattle.in_place.specs.write_plan.Rows.{truncate_row_by}
 use Rattle.in_place.specs.CleansLaws.{KeepsCleaned, MayClean, StandsCleaned}
@@ -53,10 +54,10 @@ use Rattle.file_calls.specs.declared.names.outcomes.NoMemory.{NoMemory}
 use Rattle.file_calls.specs.Runs.{RunsAs, with_files}
 use Rattle.file_calls.proofs.CloseCalls.{handle_open}
 use Rattle.file_calls.proofs.Running.{leaves_off, loses_off, runs_later, two_each, world}
-use Rattle.file_truncate.specs.Truncates.{Answers, Finds, HasSize, IsAsked, IsClean, IsCleanAnswer, IsGiven, IsLacking, IsTruncated, IsTruncatePaid, lacking_by, LeavesEnough, LeavesLess, Loses, StillRuns}
+use Rattle.file_truncate.specs.Truncates.{Answers, Finds, HasSize, IsAsked, IsClean, IsCleanAnswer, IsGiven, IsLacking, IsSpent, IsTruncated, IsTruncatePaid, lacking_by, LeavesEnough, LeavesLess, Loses, StillRuns}
 use Rattle.file_truncate.specs.declared.truncates.asking.Asked.{Asked}
 use Rattle.file_truncate.specs.declared.truncates.outcomes.Truncated.{Truncated}
-use Rattle.file_truncate.proofs.Rows.{content_long, outcome_done, room_is, room_left, row_is, same_entries, step_done, step_refused, unknown_row, waits}
+use Rattle.file_truncate.proofs.Rows.{content_long, outcome_done, room_is, room_left, row_is, step_done, step_refused, unknown_row, waits}
 
 -- ---- refused
 
@@ -67,11 +68,18 @@ refused who h size needs k t f o row = record {
       subst (λ z. RunsAs g k t (with_files x f) (n + 1) z) (sym (ap (λ z. z.state) is)) (runs_later g k t (with_files x f) n s finds.runs));
   outcome_is = λ g x n s finds. ap (λ z. z.outcome) (step_refused s who h size o (row g x n s finds.runs));
   enough = λ g x n s finds none. absurd (let never : None ≡ Some o = sym none ∙ row g x n s finds.runs in cc);
-  names = λ g x n s finds. same_entries s who h size;
 }
+
+-- one that is refused leaves the tree
+pub refused_spent : (who : Who) (h : Handle) (size needs : ℕ) (k : View) (t : Tables) (f : Files) (o : Outcome)
+    → ((g : Geometry) (x : Kept) (n : ℕ) (s : State) → RunsAs g k t (with_files x f) n s → first (truncate_rows s who h size) ≡ Some o) → (old new : Supply) → IsSpent who h size needs k t f old new
+refused_spent who h size needs k t f o row old new g x n s finds = inl (ap (λ z. tree z.state) (step_refused s who h size o (row g x n s finds.runs)))
 
 pub refused_unknown : (who : Who) (h : Handle) (size needs : ℕ) (k : View) (t : Tables) (f : Files) → opened t who h ≡ None → Answers who h size needs k t f k f (answer (Reply.Error Errno.EBADF))
 refused_unknown who h size needs k t f none = refused who h size needs k t f (answer (Reply.Error Errno.EBADF)) (λ g x n s runs. unknown_row g k t (with_files x f) n s runs who h size none)
+
+pub unknown_spent : (who : Who) (h : Handle) (size needs : ℕ) (k : View) (t : Tables) (f : Files) → opened t who h ≡ None → (old new : Supply) → IsSpent who h size needs k t f old new
+unknown_spent who h size needs k t f none = refused_spent who h size needs k t f (answer (Reply.Error Errno.EBADF)) (λ g x n s runs. unknown_row g k t (with_files x f) n s runs who h size none)
 
 -- a job that is out is of another file than the one that the call waits for
 others_of : (s : State) (who : Who) (h : Handle) (size ino : ℕ) (numbers : List ℕ) (jobs : List Job) → LetsJobsBe s (who, Call.Truncate h size) numbers jobs → waits_for s (who, Call.Truncate h size) ≡ Some (number numbers ino) → (j : Job) → In j jobs → j.draft.ino ≢ ino
@@ -85,6 +93,9 @@ module _ (who : Who) (h : Handle) (size needs : ℕ) (k : View) (t : Tables) (f 
 
   pub refused_row : (o : Outcome) → truncate_row_by d.flags.write size (size_in f d.node) (room_left k f) ≡ Some o → Answers who h size needs k t f k f o
   refused_row o is = refused who h size needs k t f o (λ g x n s runs. row_at g x n s runs ∙ is)
+
+  pub row_spent : (o : Outcome) → truncate_row_by d.flags.write size (size_in f d.node) (room_left k f) ≡ Some o → (old new : Supply) → IsSpent who h size needs k t f old new
+  row_spent o is = refused_spent who h size needs k t f o (λ g x n s runs. row_at g x n s runs ∙ is)
 
   pub leaves_less : (need left : ℕ) → truncate_row_by d.flags.write size (size_in f d.node) (room_left k f) ≡ None → need ≡ growth (size_in f d.node) size → left ≡ room_left k f - needs → left < need
       → LeavesLess who h size needs k t f need left
@@ -160,7 +171,6 @@ module _ (who : Who) (h : Handle) (size needs : ℕ) (k : View) (t : Tables) (f 
           (stands_sized g middle l t (with_files x f) u true n (n + 1) s who h size d.node (omega arith) now.0 (may_size g x n s finds middle now.0 now.1 now.2 clean) has.sized has.file has.spare).0);
       outcome_is = λ g x n s finds. ap (λ z. z.outcome) (step_done s who h size (row_at g x n s finds.runs ∙ none)) ∙ outcome_done s who h size;
       enough = leaves_enough fits;
-      names = λ g x n s finds. same_entries s who h size;
     }
 
     -- MEMORY RAN OUT
@@ -222,22 +232,29 @@ module _ (who : Who) (h : Handle) (size needs : ℕ) (k : View) (t : Tables) (f 
 
 -- ---- whatever is answered
 
+-- a step that was taken behind others
+pub paid_later : (m : ℕ) (p q r : Supply) → Steps m p q → (result : Result Truncated NoMemory) → IsTruncatePaid q r result → IsTruncatePaid p r result
+paid_later m p q r first (Ok (Truncated.Answered o)) paid = (paid.0, λ given some. (let more = paid.1 given (first.given ∙ some) in omega (arith, more, first.later)))
+paid_later m p q r first (Ok (Truncated.RoundOver need left)) paid = paid
+paid_later m p q r first (Ok Truncated.PowerLost) paid = paid
+paid_later m p q r first (Err e) paid = paid
+
 off_on : (new : Supply) → is_on new ≡ false → is_on new ≡ true → ⊥
 off_on new off on = let never : false ≡ true = sym off ∙ on in cc
 
 module _ (who : Who) (h : Handle) (size needs : ℕ) (k : View) (t : Tables) (f : Files) (room_kept : RoomIsKept) (d : Description) (known : opened t who h ≡ Some d)
     (none : truncate_row_by d.flags.write size (size_in f d.node) (room_left k f) ≡ None) (fits : growth (size_in f d.node) size ≤ room_left k f - needs) (bare : runs_in f d.node ≡ []) (ends : FilesEnd k.volume f)
     (stands_clean : StandsCleaned) (keeps_clean : KeepsCleaned) (l : View) (u : Files) (old new : Supply) where
-  pub given_ended : (r : Result Truncated NoMemory) → IsTruncatePaid new r → IsGiven d.node (size_in f d.node) size k f l u r → IsTruncated who h size needs k t f l u old new r
+  pub given_ended : (r : Result Truncated NoMemory) → IsTruncatePaid old new r → IsGiven d.node (size_in f d.node) size k f l u r → IsTruncated who h size needs k t f l u old new r
   given_ended (Ok (Truncated.Answered o)) paid (is, (middle, clean, has)) =
-      (subst (Answers who h size needs k t f l u) (sym is) (has_size who h size needs k t f room_kept d known none fits bare ends stands_clean middle l u clean has), paid)
+      (subst (Answers who h size needs k t f l u) (sym is) (has_size who h size needs k t f room_kept d known none fits bare ends stands_clean middle l u clean has), paid.0, λ g x n s finds. inr paid.1)
   given_ended (Ok (Truncated.RoundOver need left)) paid never = absurd never
   given_ended (Ok Truncated.PowerLost) paid (same, inl cut) = (loses_clean who h size needs k t f room_kept d known none fits bare ends keeps_clean l cut, same, paid)
   given_ended (Ok Truncated.PowerLost) paid (same, inr (middle, clean, answer_is)) =
       (loses_size who h size needs k t f room_kept d known none fits bare ends stands_clean middle l clean answer_is, same, paid)
   given_ended (Err e) paid (same, clean) = (still_runs who h size needs k t f room_kept d known none fits bare ends stands_clean l clean, same, paid)
 
-  pub given_ends : d.node < length k.volume.inodes → d.node < length f.sizes → IsWhole k.volume → (r : Result Truncated NoMemory) → IsTruncatePaid new r → IsGiven d.node (size_in f d.node) size k f l u r
+  pub given_ends : d.node < length k.volume.inodes → d.node < length f.sizes → IsWhole k.volume → (r : Result Truncated NoMemory) → IsTruncatePaid old new r → IsGiven d.node (size_in f d.node) size k f l u r
       → is_on new ≡ true → (l.volume.base ≡ k.volume.base) × FilesEnd l.volume u
   given_ends below line whole (Ok (Truncated.Answered o)) paid (is, (middle, clean, has)) on =
       let same = same_volume who h size needs k t f room_kept d known none fits bare ends middle clean in

@@ -18,8 +18,7 @@ use Rattle.posix_tables.specs.Nodes.{bytes_of, node_at}
 use Rattle.posix_tables.specs.Open.{may_write, opened, Tables}
 use Rattle.posix_tables.specs.Outcomes.{answer, first}
 use Rattle.in_place.specs.write_plan.posix_spec.FileRows.{content, truncate_rows}
-use Rattle.in_place.specs.write_plan.posix_spec.Run.{after_call}
-use Rattle.in_place.specs.write_plan.posix_spec.State.{room, State, with_file}
+use Rattle.in_place.specs.write_plan.posix_spec.State.{room, State}
 use Rattle.in_place.specs.write_plan.posix_spec.Step.{step, stepped, truncate_done}
 use Rattle.in_place.specs.write_plan.crash_spec.Busy.{waits_for}
 use Rattle.in_place.proofs.write_plan_proofs.Numbers.{length_at}
@@ -84,12 +83,3 @@ step_done s who h size none = ap (λ z. stepped s z (truncate_done s who h size)
 pub outcome_done : (s : State) (who : Who) (h : Handle) (size : ℕ) → (truncate_done s who h size).outcome ≡ answer Reply.Ok
 unfolding truncate_done
 outcome_done s who h size = refl
-
--- no name is made, removed or moved
-entries_by : (s : State) (who : Who) (h : Handle) (size : ℕ) (o : Option Outcome) → (stepped s o (truncate_done s who h size)).state.entries ≡ s.entries
-unfolding truncate_done with_file
-entries_by s who h size None = refl
-entries_by s who h size (Some o) = refl
-
-pub same_entries : (s : State) (who : Who) (h : Handle) (size : ℕ) → (after_call s (who, Call.Truncate h size)).entries ≡ s.entries
-same_entries s who h size = entries_by s who h size (first (truncate_rows s who h size))

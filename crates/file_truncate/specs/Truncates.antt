@@ -9,6 +9,7 @@ use Rattle.file_calls.specs.live_step_laws.k_split.declared.faults.KFault.{KFaul
 use Rattle.file_calls.specs.live_step_laws.k_split.MapChanges.{IsSizeAnswer}
 use Rattle.file_calls.specs.live_step_laws.world_model.JobLaws.{needs as needs_of}
 use Rattle.file_calls.specs.live_step_laws.world_step_laws.Steps.{LetsJobsBe}
+use Rattle.in_place.specs.write_plan.k_journal.Commits.{TakesAStep}
 use Rattle.in_place.specs.write_plan.k_journal.declared.outcomes.Commit.{Commit}
 use Rattle.in_place.specs.write_plan.k_split_model.View.{View}
 use Rattle.file_calls.specs.k_split_laws.Left.{IsLeftOf}
@@ -26,6 +27,7 @@ use Rattle.in_place.specs.write_plan.posix_spec.FileRows.{content, truncate_rows
 use Rattle.in_place.specs.write_plan.posix_spec.Run.{after_call, run}
 use Rattle.in_place.specs.write_plan.posix_spec.State.{room, State}
 use Rattle.in_place.specs.write_plan.posix_spec.Step.{step}
+use Rattle.in_place.specs.write_plan.posix_spec.Tree.{tree}
 use Rattle.in_place.specs.write_plan.Rows.{truncate_row_by}
 use Rattle.file_calls.specs.live_step_laws.live_model.Losses.{KeepsWhenLost}
 use Rattle.file_calls.specs.live_step_laws.live_model.Standing.{Kept}
@@ -72,11 +74,12 @@ abbrev pub IsCommitPaid : Supply → Commit → Type 0
 IsCommitPaid new Commit.Done = is_on new ≡ true
 IsCommitPaid new Commit.PowerLost = is_on new ≡ false
 
-abbrev pub IsTruncatePaid : Supply → Result Truncated NoMemory → Type 0
-IsTruncatePaid new (Ok (Truncated.Answered outcome)) = is_on new ≡ true
-IsTruncatePaid new (Ok (Truncated.RoundOver need left)) = is_on new ≡ true
-IsTruncatePaid new (Ok Truncated.PowerLost) = is_on new ≡ false
-IsTruncatePaid new (Err e) = is_on new ≡ true
+-- one that changes the file took a step
+abbrev pub IsTruncatePaid : Supply → Supply → Result Truncated NoMemory → Type 0
+IsTruncatePaid old new (Ok (Truncated.Answered outcome)) = (is_on new ≡ true) × TakesAStep old new
+IsTruncatePaid old new (Ok (Truncated.RoundOver need left)) = is_on new ≡ true
+IsTruncatePaid old new (Ok Truncated.PowerLost) = is_on new ≡ false
+IsTruncatePaid old new (Err e) = is_on new ≡ true
 
 -- it has the size
 pub record HasSize (ino size : ℕ) (k : View) (f : Files) (l : View) (u : Files) : Type 0 where
@@ -142,7 +145,7 @@ IsLacking who h size needs k t f (Some (need, left)) = LeavesLess who h size nee
 -- ---- what it answers
 
 -- It is done, or refused: they run in the next state, and the outcome is that of the step. Where no row refuses it, the jobs that are out
--- left what it takes. It makes, removes and moves no name.
+-- left what it takes.
 pub record Answers (who : Who) (h : Handle) (size needs : ℕ) (k : View) (t : Tables) (f : Files) (l : View) (u : Files)
     (outcome : Outcome) : Type 0 where
   pub runs : (g : Geometry) (x : Kept) (n : ℕ) (s : State)
@@ -152,9 +155,12 @@ pub record Answers (who : Who) (h : Handle) (size needs : ℕ) (k : View) (t : T
       → Finds g k t (with_files x f) n s who (Call.Truncate h size) needs
       → (step s who (Call.Truncate h size)).outcome ≡ outcome
   pub enough : LeavesEnough who h size needs k t f
-  pub names : (g : Geometry) (x : Kept) (n : ℕ) (s : State)
-      → Finds g k t (with_files x f) n s who (Call.Truncate h size) needs
-      → (after_call s (who, Call.Truncate h size)).entries ≡ s.entries
+
+-- It left the tree as it is, or took a step.
+abbrev pub IsSpent : Who → Handle → ℕ → ℕ → View → Tables → Files → Supply → Supply → Type 0
+IsSpent who h size needs k t f old new =
+    (g : Geometry) (x : Kept) (n : ℕ) (s : State) → Finds g k t (with_files x f) n s who (Call.Truncate h size) needs
+    → (tree (after_call s (who, Call.Truncate h size)) ≡ tree s) ⊎ TakesAStep old new
 
 -- THE POWER WENT in it; and the device is left of the one before.
 pub record Loses (who : Who) (h : Handle) (size needs : ℕ) (k : View) (t : Tables) (f : Files) (l : View) : Type 0 where
@@ -175,7 +181,7 @@ StillRuns who h size needs k t f l =
 abbrev pub IsTruncated : Who → Handle → ℕ → ℕ → View → Tables → Files → View → Files → Supply → Supply
     → Result Truncated NoMemory → Type 0
 IsTruncated who h size needs k t f l u old new (Ok (Truncated.Answered outcome)) =
-    Answers who h size needs k t f l u outcome × (is_on new ≡ true)
+    Answers who h size needs k t f l u outcome × (is_on new ≡ true) × IsSpent who h size needs k t f old new
 IsTruncated who h size needs k t f l u old new (Ok (Truncated.RoundOver need left)) =
     LeavesLess who h size needs k t f need left × (l ≡ k) × (u ≡ f) × (new ≡ old)
 IsTruncated who h size needs k t f l u old new (Ok Truncated.PowerLost) =

@@ -1,3 +1,4 @@
+pub mod Acted
 pub mod Changes
 pub mod Paid
 pub use Rattle.world_view_laws.specs.crash_spec

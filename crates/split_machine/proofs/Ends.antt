@@ -1,5 +1,5 @@
 -- From one moment of a run to the next, and how it ends.
-use Rattle.std.specs.Prelude.{◌≡◌, ◌≢◌, ◌⊎◌, ◌≤◌, ◌+◌, ◌*◌, ◌^◌, ℕ, zero, suc, true, false, List, [], ◌++◌, length, map, Option, Some, None, IfOk, IsSome, Ok, Err, Result, refl}
+use Rattle.std.specs.Prelude.{◌≡◌, ◌≢◌, ◌⊎◌, ◌≤◌, ◌+◌, ◌*◌, ◌^◌, ℕ, zero, suc, Bool, true, false, cond, filter, List, [], ◌∷◌, ◌++◌, length, map, Option, Some, None, IfOk, IsSome, Ok, Err, Result, refl}
 use Rattle.std.proofs.Common.{arith, ap, ◌∙◌, sym, subst, inl, inr}
 use Rattle.std.proofs.lemmas.Option.{same_Some}
 use Rattle.posix_types.specs.declared.item.Item.{Item}
@@ -24,25 +24,27 @@ use Rattle.run_laws.specs.live_model.Standing.{JobOut}
 use Rattle.run_laws.specs.write_end.Ends.{begun_by}
 use Rattle.run_laws.specs.round_log.Rounds.{RoundView}
 use Rattle.run_laws.specs.write_jobs.Jobs.{FilledView, JobView}
-use Rattle.run_laws.specs.world_view_laws.Losses.{MayCrash}
+use Rattle.run_laws.specs.world_view_laws.Losses.{calls_acted, KeepsActed, MayCrash}
 use Rattle.run_laws.specs.world_view_laws.Rounds.{IsLeft, MayUnmount}
 use Rattle.run_laws.specs.world_view_laws.Views.{calls_out, WorldView}
-use Rattle.run_laws.specs.Changes.{ChangesAtMost}
-use Rattle.run_laws.proofs.Names.{keeps_given}
+use Rattle.run_laws.specs.Acted.{AreSomeOf}
+use Rattle.run_laws.specs.Changes.{ChangesTreeAtMost}
+use Rattle.run_laws.proofs.Acted.{all_of}
 use Rattle.split_world.specs.world_parts.Answers.{IsEnded}
 use Rattle.split_world.specs.world_parts.declared.outcomes.Ended.{Ended}
-use Rattle.event_laws.specs.Between.{Between, CanCrash, GoesOn, IsLater, left_to_do, lines_in, LosesPower}
-use Rattle.event_laws.specs.Held.{filled_of, jobs_of, nothing_out, OutView}
+use Rattle.event_laws.specs.declared.held.Held.{Held}
+use Rattle.event_laws.specs.Between.{Between, CanCrash, GoesOn, IsLater, left_to_do, LosesPower}
+use Rattle.event_laws.specs.Held.{filled_of, jobs_of, lines_in, nothing_out, OutView}
 use Rattle.event_laws.specs.Paid.{IsPaid, IsPaidOff}
-use Rattle.event_laws.proofs.Checks.{affords_lost, affords_whole, crashes_between, may_end, none_pending, paid_is_paid_off}
+use Rattle.event_laws.proofs.Checks.{acted_between, affords_lost, affords_whole, crashes_between, may_end, none_held, none_pending, paid_is_paid_off}
 use Rattle.course_laws.specs.Course.{at_start, setting_of}
 use Rattle.course_laws.specs.Course as courses
-use Rattle.course_laws.specs.Runs.{AreLeft, IsBelow, IsFirst, IsRan, IsScheduled}
+use Rattle.course_laws.specs.Runs.{AreLeft, IsBelow, IsFirst, IsRan, IsScheduled, KeepsStop}
 use Rattle.course_laws.proofs.Rounds.{calls_are_out, run_starts}
 use Rattle.split_machine.specs.declared.runs.End.{End}
 use Rattle.split_machine.proofs.Begins.{none_some}
 use Rattle.split_machine.specs.Events.{IsBegunRound, IsOnCourse, IsOpen}
-use Rattle.split_machine.specs.Runs.{CanEnd, HasCome, IsAtEnd, IsCrashed, IsEndedBy, IsOneLess, IsReached, IsRunEnded, IsUntil}
+use Rattle.split_machine.specs.Runs.{CanEnd, HasCome, IsAtEnd, IsCrashed, IsEndedBy, IsOneLess, IsReached, IsRunEnded, IsUntil, PaysForAll}
 
 -- ---- from moment to moment
 
@@ -67,8 +69,8 @@ module _ (first old new : WorldView) (out left : OutView) (start before : Supply
   goes_reached after goes = record { later = later_then first old new was.later goes.later; between = goes.between; on = λ some. goes.on; paid = goes.paid start was.paid }
 
   -- the power goes
-  pub lost_at_end : (after : Supply) (begins : Option Who) → LosesPower begins old out new left before after → IsAtEnd first new left start after End.PowerLost
-  lost_at_end after begins loses = (later_then first old new was.later loses.later, loses.can, loses.off, loses.paid start was.paid)
+  pub lost_at_end : (after : Supply) (begins : Option Who) → is_on before ≡ true → LosesPower begins old out new left before after → IsAtEnd first new left start after End.PowerLost
+  lost_at_end after begins on loses = (later_then first old new was.later loses.later, loses.can, loses.off, loses.paid start was.paid, λ given some. loses.acted start given on some was.paid)
 
 -- as much is left to do as before the lines went out
 pub opened_left : (old new : WorldView) (out left : OutView) → IsOpen old out new left → left_to_do new left ≡ left_to_do old out
@@ -76,6 +78,10 @@ opened_left old new out left opens = by opens.1 where
   by : ((new ≡ old) × (left ≡ out)) ⊎ IsBegunRound old out new left → left_to_do new left ≡ left_to_do old out
   by (inl same) = λ k. left_to_do (same.0 k) (same.1 k)
   by (inr begun) = begun.opened.same
+
+-- or it was off before an event
+pub off_at_end : (first w : WorldView) (out : OutView) (start now : Supply) → IsReached first w out start now → is_on now ≡ false → IsAtEnd first w out start now End.PowerLost
+off_at_end first w out start now was off = (was.later, crashes_between w out was.between, off, paid_is_paid_off w out start now was.paid, λ given some. acted_between w out start now given was.between some was.paid)
 
 -- ---- the cut
 
@@ -136,6 +142,11 @@ crash_may w out lines jobs filled can one two three =
     subst (λ (xs : List Part). MayCrash w xs jobs filled) (sym one)
     (subst (λ (xs : List JobView). MayCrash w (lines_in out.log) xs filled) (sym two) (subst (MayCrash w (lines_in out.log) (jobs_of out.jobs)) (sym three) can.crash))
 
+-- and what it keeps of them
+pub crash_acted : (w : WorldView) (out : OutView) (lines : List Part) (filled : List FilledView) (pm : List Cell) → lines ≡ lines_in out.log → filled ≡ filled_of out.jobs → KeepsActed w lines filled pm
+    → KeepsActed w (lines_in out.log) (filled_of out.jobs) pm
+crash_acted w out lines filled pm one two keeps = subst (λ (xs : List Part). KeepsActed w xs (filled_of out.jobs) pm) one (subst (λ (xs : List FilledView). KeepsActed w lines xs pm) two keeps)
+
 pub usable_at : (first w : WorldView) (out : OutView) (before now : Supply) (end : End) → IsAtEnd first w out before now end → w.usable ≡ true
 usable_at first w out before now End.All at = at.0.between.usable
 usable_at first w out before now End.Cut at = at.between.usable
@@ -150,7 +161,10 @@ record IsTaken (v : WorldView) (before after : Supply) : Type 0 where
   pub given : after.given ≡ before.given
   pub later : before.taken ≤ after.taken
   pub afforded : (steps : ℕ) → after.taken ≡ before.taken + steps → Afforded steps v.history v.scripts v.start.mode
-  pub kept : (given : ℕ) → before.given ≡ Some given → ChangesAtMost v.start v.history given
+
+-- A stop is kept, whatever was left.
+abbrev AreKept : WorldView → Supply → List Cell → List Unfinished → Type 0
+AreKept v before pm unfinished = (given : ℕ) → before.given ≡ Some given → KeepsStop v pm v.history unfinished given
 
 -- where the power went, or it was cut
 taken_off : (v : WorldView) (before after : Supply) → AreFewActs v → IsPaidOff before after v → IsTaken v before after
@@ -158,8 +172,41 @@ taken_off v before after few paid = record {
   given = paid.any.given;
   later = paid.any.later;
   afforded = λ steps at. affords_lost v before after steps v.start.mode paid few at;
-  kept = λ given some. keeps_given before after v given (paid.names given some);
 }
+
+-- the calls that a test tells are some of those that are out
+some_acted : (acts : JobOut → Bool) (pending : List JobOut) (last : List Unfinished) → AreSomeOf (map begun_by (filter acts pending) ++ last) (map begun_by pending ++ last)
+some_acted acts [] last = all_of last
+some_acted acts (p ∷ pending) last = by (acts p) (some_acted acts pending last) where
+  by : (b : Bool) → AreSomeOf (map begun_by (filter acts pending) ++ last) (map begun_by pending ++ last)
+      → AreSomeOf (map begun_by (cond b (p ∷ filter acts pending) (filter acts pending)) ++ last) (begun_by p ∷ (map begun_by pending ++ last))
+  by true rest = inr (map begun_by (filter acts pending) ++ last, refl, rest)
+  by false rest = inl rest
+
+-- those that acted took a step each
+kept_off : (v : WorldView) (out : OutView) (before after : Supply) (pm : List Cell) → PaysForAll before after v out → KeepsActed v (lines_in out.log) (filled_of out.jobs) pm → AreKept v before pm (calls_out v)
+kept_off v out before after pm paid keeps given some =
+    let pays = paid given some in record {
+      acted = calls_acted v pays.acted.acts;
+      some = some_acted pays.acted.acts v.pending v.unfinished;
+      promise = keeps pays.acted.acts pays.acted.tells;
+      changed = pays.tree.changed;
+      each = pays.tree.each;
+      most = (let most = pays.tree.most in let few = pays.acted.few in omega (arith, most, few));
+    }
+
+-- none is out
+kept_none : (v : WorldView) (before now : Supply) (jobs : List Held) (pm : List Cell) (unfinished : List Unfinished) → IsPaid before now v jobs → unfinished ≡ [] → KeepsPromise v.geometry pm v.start v.history unfinished
+    → AreKept v before pm unfinished
+kept_none v before now jobs pm unfinished paid none promise given some =
+    let kept = paid.tree given some in record {
+      acted = unfinished;
+      some = all_of unfinished;
+      promise = promise;
+      changed = kept.changed;
+      each = kept.each;
+      most = (let most = kept.most in omega (arith, most, ap (λ (cs : List Unfinished). length cs) none));
+    }
 
 -- where an unmount came behind all calls
 taken_whole : (v : WorldView) (out : OutView) (before now after : Supply) → AreFewActs v → IsPaid before now v out.jobs → IsComplete v.scripts v.history → Steps (2 ^ 26) now after → IsTaken v before after
@@ -167,13 +214,12 @@ taken_whole v out before now after few paid complete steps = record {
   given = steps.given ∙ paid.any.given;
   later = (let one = paid.any.later in let then = steps.later in omega (arith, one, then));
   afforded = λ n at. affords_whole v out before now after n v.start.mode paid complete few steps at;
-  kept = λ given some. keeps_given before now v given (paid.names given some);
 }
 
 -- WHAT IS SAID OF THE LAST WORLD IS SO OF THE FIRST.
-ran : (w v : WorldView) (before after : Supply) → IsLater w v → (pm : List Cell) (history : List Item) (unfinished : List Unfinished) → IsLeft v pm history unfinished → IsTaken v before after → AreUnfinished v.scripts v.history unfinished
-    → IsRan w before after pm history unfinished
-ran w v before after same pm history unfinished left taken open_calls = record {
+ran : (w v : WorldView) (before after : Supply) → IsLater w v → (pm : List Cell) (history : List Item) (unfinished : List Unfinished) → IsLeft v pm history unfinished → IsTaken v before after → AreKept v before pm unfinished
+    → AreUnfinished v.scripts v.history unfinished → IsRan w before after pm history unfinished
+ran w v before after same pm history unfinished left taken kept open_calls = record {
   legal = subst (λ (s : State). IsLegal s history) same.start left.legal;
   scripted = subst (λ (s : Scripts). Scripted s history) same.scripts left.scripted;
   open_calls = subst (λ (s : Scripts). AreUnfinished s history unfinished) same.scripts (subst (λ (items : List Item). AreUnfinished v.scripts items unfinished) (sym left.history_is) open_calls);
@@ -184,8 +230,17 @@ ran w v before after same pm history unfinished left taken open_calls = record {
   later = taken.later;
   afforded = λ steps at. subst (λ (s : State). Afforded steps history w.scripts s.mode) same.start
       (subst (λ (s : Scripts). Afforded steps history s v.start.mode) same.scripts (subst (λ (items : List Item). Afforded steps items v.scripts v.start.mode) (sym left.history_is) (taken.afforded steps at)));
-  kept = λ given some. subst (λ (s : State). ChangesAtMost s history given) same.start (subst (λ (items : List Item). ChangesAtMost v.start items given) (sym left.history_is) (taken.kept given some));
-}
+  kept = λ given some. subst (λ (items : List Item). KeepsStop w pm items unfinished given) (sym left.history_is) (kept_first given (kept given some));
+} where
+  kept_first : (given : ℕ) → KeepsStop v pm v.history unfinished given → KeepsStop w pm v.history unfinished given
+  kept_first given is = record {
+    acted = is.acted;
+    some = is.some;
+    promise = subst (λ (g : Geometry). KeepsPromise g pm w.start v.history is.acted) same.geometry (subst (λ (s : State). KeepsPromise v.geometry pm s v.history is.acted) same.start is.promise);
+    changed = is.changed;
+    each = subst (λ (s : State). ChangesTreeAtMost s v.history is.changed) same.start is.each;
+    most = is.most;
+  }
 
 -- SO MANY EVENTS ARE SCHEDULED, and leave the history and the calls that are out.
 abbrev scheduled : (first : WorldView) (order : Order) (events : ℕ) (v : WorldView) (out : OutView) (picker : Picker) → Between v out → IsOnCourse first order events v out picker → (history : List Item) (calls : List Unfinished)
@@ -207,7 +262,7 @@ module _ (first : WorldView) (order : Order) (cut : Option ℕ) (v : WorldView) 
   -- all calls returned: an unmount came behind them
   ended_all : IsAtEnd first v out before now End.All → HasCome first order cut v out before now End.All → Steps (2 ^ 26) now after → (ended : Ended) → IsEnded v after (Ok ended) → IsRunEnded first order cut before after ended
   ended_all at come steps (Ended.Whole pm history) is = record {
-    ran = ran first v before after at.0.later pm history.items [] is.2 taken (AreUnfinished-none v.scripts v.history);
+    ran = ran first v before after at.0.later pm history.items [] is.2 taken (kept_none v before now out.jobs pm [] at.0.paid refl promise) (AreUnfinished-none v.scripts v.history);
     complete = subst (λ (s : Scripts). IsComplete s history.items) at.0.later.scripts (subst (IsComplete v.scripts) (sym is.2.history_is) at.2);
     on = is.1;
     events = come.events;
@@ -216,8 +271,12 @@ module _ (first : WorldView) (order : Order) (cut : Option ℕ) (v : WorldView) 
   } where
     taken : IsTaken v before after
     taken = taken_whole v out before now after few at.0.paid at.2 steps
+
+    promise : KeepsPromise v.geometry pm v.start v.history []
+    promise = subst (λ (items : List Item). KeepsPromise v.geometry pm v.start items []) is.2.history_is is.2.promise
   ended_all at come steps (Ended.Lost crashed) is = record {
-    ran = ran first v before after at.0.later crashed.pm crashed.history.items crashed.unfinished.items left taken-2 (subst (AreUnfinished v.scripts v.history) (sym is.2) (crashes_between v out at.0.between).open_calls);
+    ran = ran first v before after at.0.later crashed.pm crashed.history.items crashed.unfinished.items left taken-2 (kept_none v before now out.jobs crashed.pm crashed.unfinished.items at.0.paid none promise-2)
+        (subst (AreUnfinished v.scripts v.history) (sym is.2) (crashes_between v out at.0.between).open_calls);
     lost = inl (record {
       off = elim is.0 [
         | inl lost ↦ (let never : true ≡ false = sym lost ∙ at.0.between.awake in cc)
@@ -236,12 +295,18 @@ module _ (first : WorldView) (order : Order) (cut : Option ℕ) (v : WorldView) 
     left : IsLeft v crashed.pm crashed.history.items crashed.unfinished.items
     left = subst (IsLeft v crashed.pm crashed.history.items) (sym is.2) is.1
 
+    none : crashed.unfinished.items ≡ []
+    none = is.2 ∙ none_out v out at.0.between (none_held v out at.0.between at.2)
+
+    promise-2 : KeepsPromise v.geometry crashed.pm v.start v.history crashed.unfinished.items
+    promise-2 = subst (λ (items : List Item). KeepsPromise v.geometry crashed.pm v.start items crashed.unfinished.items) left.history_is left.promise
+
   -- it was cut
-  ended_cut : IsAtEnd first v out before now End.Cut → HasCome first order cut v out before now End.Cut → (ended : Ended) → IsCrashed v now after ended → IsRunEnded first order cut before after ended
+  ended_cut : IsAtEnd first v out before now End.Cut → HasCome first order cut v out before now End.Cut → (ended : Ended) → IsCrashed v out now after ended → IsRunEnded first order cut before after ended
   ended_cut at come (Ended.Whole pm history) is = absurd is
   ended_cut at come (Ended.Lost crashed) is = record {
     ran = ran first v before after at.later crashed.pm crashed.history.items crashed.unfinished.items is.0 (subst (IsTaken v before) (sym is.1) (taken_off v before now few (paid_is_paid_off v out before now at.paid)))
-        (subst (AreUnfinished v.scripts v.history) (sym is.0.unfinished_is) (crashes_between v out at.between).open_calls);
+        (subst (AreKept v before crashed.pm) (sym is.0.unfinished_is) (kept_off v out before now crashed.pm (λ given some. acted_between v out before now given at.between some at.paid) is.2)) (subst (AreUnfinished v.scripts v.history) (sym is.0.unfinished_is) (crashes_between v out at.between).open_calls);
     lost = inr (record {
       events = come.events;
       cut_is = come.cut_is;
@@ -250,11 +315,11 @@ module _ (first : WorldView) (order : Order) (cut : Option ℕ) (v : WorldView) 
   }
 
   -- the power went
-  ended_lost : IsAtEnd first v out before now End.PowerLost → HasCome first order cut v out before now End.PowerLost → (ended : Ended) → IsCrashed v now after ended → IsRunEnded first order cut before after ended
+  ended_lost : IsAtEnd first v out before now End.PowerLost → HasCome first order cut v out before now End.PowerLost → (ended : Ended) → IsCrashed v out now after ended → IsRunEnded first order cut before after ended
   ended_lost at come (Ended.Whole pm history) is = absurd is
   ended_lost at come (Ended.Lost crashed) is = record {
     ran = ran first v before after at.0 crashed.pm crashed.history.items crashed.unfinished.items is.0 (subst (IsTaken v before) (sym is.1) (taken_off v before now few at.3))
-        (subst (AreUnfinished v.scripts v.history) (sym is.0.unfinished_is) at.1.open_calls);
+        (subst (AreKept v before crashed.pm) (sym is.0.unfinished_is) (kept_off v out before now crashed.pm at.4 is.2)) (subst (AreUnfinished v.scripts v.history) (sym is.0.unfinished_is) at.1.open_calls);
     lost = inl (record {
       off = subst (λ (p : Supply). is_on p ≡ false) (sym is.1) at.2;
       events = come.events;
@@ -266,11 +331,11 @@ module _ (first : WorldView) (order : Order) (cut : Option ℕ) (v : WorldView) 
   }
 
   -- HOW A RUN ENDS
-  pub run_ended : (end : End) → IsAtEnd first v out before now end → HasCome first order cut v out before now end → (ended : Ended) → IsEndedBy v now after end ended → IsRunEnded first order cut before after ended
+  pub run_ended : (end : End) → IsAtEnd first v out before now end → HasCome first order cut v out before now end → (ended : Ended) → IsEndedBy v out now after end ended → IsRunEnded first order cut before after ended
   run_ended End.All at come ended is = ended_all at come is.0 ended is.1
   run_ended End.Cut at come ended is = ended_cut at come ended is
   run_ended End.PowerLost at come ended is = ended_lost at come ended is
 
-  pub run_ended_ok : (end : End) → IsAtEnd first v out before now end → HasCome first order cut v out before now end → (e : Result Ended NoMemory) → IfOk e (IsEndedBy v now after end) → IfOk e (IsRunEnded first order cut before after)
+  pub run_ended_ok : (end : End) → IsAtEnd first v out before now end → HasCome first order cut v out before now end → (e : Result Ended NoMemory) → IfOk e (IsEndedBy v out now after end) → IfOk e (IsRunEnded first order cut before after)
   run_ended_ok end at come (Ok ended) is = run_ended end at come ended is
   run_ended_ok end at come (Err e) is = tt

@@ -6,7 +6,7 @@ use Rattle.std.proofs.lemmas.Option.{same_Some, slice_get_within}
 use Rattle.posix_types.specs.declared.call.Who.{Who}
 use Rattle.run_laws.specs.posix_tables.Open.{same_who}
 use Rattle.run_laws.specs.in_flight.commute_laws.Handles.{same_who-is}
-use Rattle.run_laws.proofs.Names.{same_caller}
+use Rattle.run_laws.proofs.Longer.{same_caller}
 use Rattle.event_laws.specs.declared.held.Held.{Held}
 
 -- none of the jobs before a place is this caller's

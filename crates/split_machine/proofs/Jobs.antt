@@ -14,7 +14,7 @@ use Rattle.event_laws.specs.Between.{Between, GoesOn, LosesPower}
 use Rattle.event_laws.specs.EventsLaws.{held, IsHeldAt, StoresEntry, with_log, with_work, without_job}
 use Rattle.event_laws.specs.Held.{OutView}
 use Rattle.event_laws.proofs.Finishes.{filled_is_here, finish_loses, job_finishes, job_given_up, persisted_is_here}
-use Rattle.run_laws.proofs.Names.{Steps-more}
+use Rattle.run_laws.proofs.Longer.{Steps-more}
 use Rattle.event_laws.proofs.Pays.{no_steps}
 use Rattle.event_laws.proofs.Places.{place_there, put_back}
 use Rattle.event_laws.proofs.Works.{claimed_is_free, entry_persisted, entry_stored, fill_loses, job_claims, job_fills, persist_loses, store_loses, stored_is_there}

@@ -1,20 +1,26 @@
 -- The loop of a run: from one turn to the next, and its ends.
-use Rattle.std.specs.Prelude.{◌≡◌, ◌≢◌, ◌<◌, ◌+◌, ℕ, Option, Some, None, refl}
-use Rattle.std.proofs.Common.{arith, sym, subst}
+use Rattle.std.specs.Prelude.{◌≡◌, ◌≢◌, ◌<◌, ◌+◌, ℕ, Bool, true, false, Option, Some, None, refl}
+use Rattle.std.proofs.Common.{arith, ◌∙◌, inl, sym, subst}
 use Rattle.run_laws.specs.crash_spec.Orders.{none_picked, Order}
 use Rattle.schedule.specs.declared.picks.Picker.{Picker}
 use Rattle.schedule.specs.Picking.{IsSoFar}
-use Rattle.run_laws.specs.pm_model.Powers.{Supply}
+use Rattle.run_laws.specs.pm_model.Powers.{is_on, Supply}
 use Rattle.run_laws.specs.world_view_laws.Views.{WorldView}
 use Rattle.event_laws.specs.Between.{left_to_do}
 use Rattle.event_laws.specs.Held.{nothing_out, OutView}
+use Rattle.course_laws.specs.Course.{setting_of}
 use Rattle.course_laws.specs.Runs.{IsFirst}
+use Rattle.course_laws.proofs.Rounds.{calls_are_out}
 use Rattle.split_machine.specs.declared.outstanding.Acted.{Acted}
 use Rattle.split_machine.specs.declared.runs.End.{End}
 use Rattle.split_machine.specs.Events.{IsOnCourse, IsOpen, IsStepped, IsUnderWay}
 use Rattle.split_machine.specs.Runs.{HasCome, IsAtEnd, IsLed, IsLeftAfter, IsOneLess, IsReached, IsUntil}
-use Rattle.split_machine.proofs.Ends.{course_first, goes_reached, lost_at_end, opened_left, opened_reached, reached_first, until_first, until_less, until_none, until_same, until_some}
+use Rattle.split_machine.proofs.Ends.{course_first, goes_reached, lost_at_end, off_at_end, opened_left, opened_reached, reached_first, until_first, until_less, until_none, until_same, until_some}
 use Rattle.split_machine.proofs.Steps.{opened_course}
+
+-- a test of the power fails
+pub off_now : (b : Bool) (now : Supply) → b ≡ is_on now → b ≡ false → is_on now ≡ false
+off_now b now is fails = sym is ∙ fails
 
 -- whatever the order is, so many events led here
 abbrev pub AreLed : WorldView → Picker → Option ℕ → Option ℕ → WorldView → OutView → Picker → Type 0
@@ -34,6 +40,26 @@ module _ (first : WorldView) (begun : Picker) (cut : Option ℕ) (start : Supply
   cut_comes none order far =
       let here = led order far in
       record { events = here.events; picker = picker; course = here.course; cut_is = until_none cut here.events (subst (λ (l : Option ℕ). IsUntil cut l here.events) none here.until) }
+
+  -- the power was off
+  module _ (off : is_on now ≡ false) where
+    pub off_ends : IsAtEnd first w out start now End.PowerLost
+    off_ends = off_at_end first w out start now reached off
+
+    pub off_comes : left ≢ Some 0 → (order : Order) → IsSoFar begun order none_picked → HasCome first order cut w out start now End.PowerLost
+    off_comes some order far =
+        let here = led order far in
+        record {
+          was = w;
+          out_was = out;
+          events = here.events;
+          picker = picker;
+          between = reached.between;
+          course = here.course;
+          below = until_some cut left here.events some here.until;
+          history = refl;
+          left = inl (calls_are_out (setting_of first) here.course.course.machine w out reached.between here.course.beside);
+        }
 
   -- the lines go out, and a step follows
   module _ (mid : WorldView) (middle : OutView) (opens : IsOpen w out mid middle) where
@@ -86,8 +112,8 @@ module _ (first : WorldView) (begun : Picker) (cut : Option ℕ) (start : Supply
       turn_less Acted.PowerLost lasts is = absurd (lasts refl)
 
       -- the power goes
-      pub lost_ends : IsStepped mid middle picker new then next now after (Some Acted.PowerLost) → IsAtEnd first new then start after End.PowerLost
-      lost_ends is = lost_at_end first mid new middle then start now between_now after is.begins is.loses
+      pub lost_ends : is_on now ≡ true → IsStepped mid middle picker new then next now after (Some Acted.PowerLost) → IsAtEnd first new then start after End.PowerLost
+      lost_ends on is = lost_at_end first mid new middle then start now between_now after is.begins on is.loses
 
       pub lost_comes : left ≢ Some 0 → IsStepped mid middle picker new then next now after (Some Acted.PowerLost) → (order : Order) → IsSoFar begun order none_picked → HasCome first order cut new then start after End.PowerLost
       lost_comes some is order far = record {

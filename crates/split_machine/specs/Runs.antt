@@ -4,11 +4,12 @@ use Rattle.run_laws.specs.crash_spec.Orders.{Order}
 use Rattle.schedule.specs.declared.picks.Picker.{Picker}
 use Rattle.run_laws.specs.pm_model.Powers.{is_on, Steps, Supply}
 use Rattle.run_laws.specs.posix_spec.Scripted.{IsComplete}
+use Rattle.run_laws.specs.world_view_laws.Losses.{KeepsActed}
 use Rattle.run_laws.specs.world_view_laws.Rounds.{IsLeft, MayUnmount}
 use Rattle.run_laws.specs.world_view_laws.Views.{calls_out, WorldView}
-use Rattle.event_laws.specs.Between.{Between, CanCrash, IsLater, lines_in}
-use Rattle.event_laws.specs.Held.{OutView}
-use Rattle.event_laws.specs.Paid.{IsPaid, IsPaidOff}
+use Rattle.event_laws.specs.Between.{Between, CanCrash, IsLater}
+use Rattle.event_laws.specs.Held.{filled_of, lines_in, OutView}
+use Rattle.event_laws.specs.Paid.{IsPaid, IsPaidOff, PaysForActed}
 use Rattle.course_laws.specs.Course.{setting_of}
 use Rattle.course_laws.specs.Runs.{AreLeft, IsBelow, IsLostRun, IsWholeRun}
 use Rattle.split_machine.specs.declared.outstanding.Acted.{Acted}
@@ -64,7 +65,7 @@ pub record IsCutAt (first : WorldView) (order : Order) (cut : Option ℕ) (w : W
   pub course : IsOnCourse first order events w out picker
   pub cut_is : cut ≡ Some events
 
--- the power went in the next event, behind fewer than the cut's: nothing returned since, and one call more may have begun
+-- the power was off before the next event or went in it, behind fewer than the cut's: nothing returned since, and one call more may have begun
 pub record HasLost (first : WorldView) (order : Order) (cut : Option ℕ) (w : WorldView) (out : OutView) (before now : Supply) : Type 0 where
   pub was : WorldView
   pub out_was : OutView
@@ -82,11 +83,15 @@ HasCome first order cut w out before now End.All = HasAll first order cut w out 
 HasCome first order cut w out before now End.Cut = IsCutAt first order cut w out before now
 HasCome first order cut w out before now End.PowerLost = HasLost first order cut w out before now
 
+-- where the power was for a number of steps, each call that is out and acted took one
+abbrev pub PaysForAll : Supply → Supply → WorldView → OutView → Type 0
+PaysForAll before now w out = (given : ℕ) → before.given ≡ Some given → PaysForActed before now w out given
+
 -- WHERE THE EVENTS OF A RUN END, whatever the order was: all calls returned; the cut is reached; or the power went.
 abbrev pub IsAtEnd : WorldView → WorldView → OutView → Supply → Supply → End → Type 0
 IsAtEnd first w out before now End.All = IsReached first w out before now × IsSome out.log × IsComplete w.scripts w.history
 IsAtEnd first w out before now End.Cut = IsReached first w out before now
-IsAtEnd first w out before now End.PowerLost = IsLater first w × CanCrash w out × (is_on now ≡ false) × IsPaidOff before now w
+IsAtEnd first w out before now End.PowerLost = IsLater first w × CanCrash w out × (is_on now ≡ false) × IsPaidOff before now w × PaysForAll before now w out
 
 -- ---- the end
 
@@ -96,15 +101,16 @@ CanEnd w out End.All = (w.usable ≡ true) × MayUnmount w (lines_in out.log)
 CanEnd w out End.Cut = CanCrash w out
 CanEnd w out End.PowerLost = CanCrash w out
 
--- a crash leaves this
-abbrev pub IsCrashed : WorldView → Supply → Supply → Ended → Type 0
-IsCrashed w before after (Ended.Whole pm history) = ⊥
-IsCrashed w before after (Ended.Lost crashed) = IsLeft w crashed.pm crashed.history.items crashed.unfinished.items × (after ≡ before)
+-- a crash leaves this, and keeps the promise for the calls that may have acted
+abbrev pub IsCrashed : WorldView → OutView → Supply → Supply → Ended → Type 0
+IsCrashed w out before after (Ended.Whole pm history) = ⊥
+IsCrashed w out before after (Ended.Lost crashed) =
+    IsLeft w crashed.pm crashed.history.items crashed.unfinished.items × (after ≡ before) × KeepsActed w (lines_in out.log) (filled_of out.jobs) crashed.pm
 
-abbrev pub IsEndedBy : WorldView → Supply → Supply → End → Ended → Type 0
-IsEndedBy w before after End.All ended = Steps (2 ^ 26) before after × IsEnded w after (Ok ended)
-IsEndedBy w before after End.Cut ended = IsCrashed w before after ended
-IsEndedBy w before after End.PowerLost ended = IsCrashed w before after ended
+abbrev pub IsEndedBy : WorldView → OutView → Supply → Supply → End → Ended → Type 0
+IsEndedBy w out before after End.All ended = Steps (2 ^ 26) before after × IsEnded w after (Ok ended)
+IsEndedBy w out before after End.Cut ended = IsCrashed w out before after ended
+IsEndedBy w out before after End.PowerLost ended = IsCrashed w out before after ended
 
 -- HOW A RUN ENDS: with all calls, and the power on; or by a power loss.
 abbrev pub IsRunEnded : WorldView → Order → Option ℕ → Supply → Supply → Ended → Type 0

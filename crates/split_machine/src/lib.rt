@@ -7,7 +7,7 @@
 //! (`IsRunEnded`): the run ends whole with all calls of the scripts, or by a power loss, with a device that keeps the
 //! promise for what returned and what did not; so many events of the machine over events are scheduled in the order
 //! (`IsScheduled`), fewer than a cut or exactly as many; its steps are afforded; and where the power was for N steps
-//! at most N calls changed the names.
+//! at most N calls changed the tree, the unfinished ones included that acted (`KeepsStop`).
 //!
 //! Stands on `split_world` (the World), `schedule` (orders), `round_log`, and on `event_laws` and `course_laws`.
 #![tactic(auto)]

@@ -2,7 +2,6 @@
 ghost use Rattle.std.specs.Prelude.{◌≡◌, ◌≢◌, ◌++◌, ℕ, [], IfNone, IfOk, IfSome, Some, slice_get};
 ghost use Rattle.std.specs.List.{cons_option};
 ghost use Rattle.run_laws.specs.posix_tables.Open.{same_who};
-ghost use Rattle.event_laws.specs.Between.{lines_in};
 ghost use Rattle.event_laws.specs.Held as holding;
 ghost use Rattle.event_laws.specs.declared.held.Held as held;
 
@@ -31,7 +30,7 @@ pub enum Acted {
 
 /// The lines that are out, if a round goes on.
 pub(crate) fn lines_of(alloc: Global, log: Option<RoundLog>) -> Vec<Line>
-    ensures { result.items ≡ lines_in log }
+    ensures { result.items ≡ holding.lines_in log }
 {
     match log {
         Some(log) => log.close(),

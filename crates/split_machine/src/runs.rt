@@ -60,7 +60,7 @@ fn has_lost(acted: Acted) -> bool
     }
 }
 
-// The events of a run, one after another, up to its cut.
+// The events of a run, one after another, up to its cut. None begins with the power off.
 fn run_events(
     world: &mut World,
     alloc: Global,
@@ -80,6 +80,9 @@ fn run_events(
         if is_cut(left) {
             return Ok(End::Cut);
         }
+        if !power.on() {
+            return Ok(End::PowerLost);
+        }
         open_round(world, alloc, out)?;
         let Some(acted) = step(world, alloc, out, picker, power)? else {
             return Ok(End::All);
@@ -91,10 +94,11 @@ fn run_events(
     }
 }
 
-/// What a power loss leaves of a World with what is out of it.
+/// What a power loss leaves of a World with what is out of it. The calls of jobs that cannot have acted need not be among
+/// those that the device keeps the promise for.
 pub fn crash(alloc: Global, world: World, out: Out, power: &Power) -> Result<Ended, NoMemory>
     requires { CanCrash world (seen out) }
-    ensures { IfOk result (IsCrashed world power.now power.now) }
+    ensures { IfOk result (IsCrashed world (seen out) power.now power.now) }
 {
     let _power = power;
     let (jobs, filled) = parted(alloc, out.jobs)?;
@@ -110,7 +114,7 @@ fn end_run(
     power: &mut Power,
 ) -> Result<Ended, NoMemory>
     requires { CanEnd world (seen out) end }
-    ensures { IfOk result (IsEndedBy world power.old power.new end) }
+    ensures { IfOk result (IsEndedBy world (seen out) power.old power.new end) }
 {
     match end {
         End::All => world.unmount(alloc, lines_of(alloc, out.log), power),

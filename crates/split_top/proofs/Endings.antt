@@ -18,15 +18,17 @@ use Rattle.command_line.specs.posix_spec.Scripted.{IsComplete, Scripted}
 use Rattle.command_line.specs.posix_spec.State.{State}
 use Rattle.command_line.specs.posix_spec.Tree.{tree}
 use Rattle.command_line.specs.posix_spec.Unfinished.{AreUnfinished}
-use Rattle.split_machine.specs.run_laws.Changes.{ChangesAtMost}
+use Rattle.split_machine.specs.run_laws.Changes.{ChangesTreeAtMost}
 use Rattle.split_machine.specs.course_laws.Course.{setting_of}
 use Rattle.split_machine.specs.course_laws.CourseLaws.{LeadsReaches}
 use Rattle.split_machine.specs.course_laws.Runs as machine
 use Rattle.split_machine.specs.crash_spec.Schedules.{Reaches, Scheduled}
 use Rattle.split_machine.specs.world_view_laws.Views.{WorldView}
 use Rattle.split_machine.specs.world_image_laws.Starts.{has_setting}
-use Rattle.split_top.specs.Runs.{AreWithin, beginning, HasBegun, IsCut, IsRun, IsScheduled, IsStopped, IsWhole, setting, Task}
+use Rattle.split_top.specs.Found.{IsLeftAs}
+use Rattle.split_top.specs.Runs.{AreWithin, beginning, HasBegun, IsCut, IsRun, IsScheduled, IsStopped, IsWhole, KeepsStop, setting, Task}
 use Rattle.split_top.specs.Worlds.{IsWorldOn}
+use Rattle.split_top.proofs.Left.{left_as, left_with}
 
 -- a power that went had no more steps than were taken
 spent : (n : ℕ) (before after : Supply) → before ≡ record { given = Some n; taken = 0 } → after.given ≡ before.given → is_on after ≡ false → n ≤ after.taken
@@ -63,7 +65,8 @@ one_tree Mode.Strict other s history shown permitted = Strict-idle s history sho
 one_tree Mode.Sync other s history shown permitted = Sync-idle s history shown permitted
 one_tree Mode.Posix other s history shown permitted = absurd (other refl)
 
-module _ (g : Geometry) (task : Task) (options : Options) (w : WorldView) (before after : Supply) (pm : List Cell) (history : List Item) (unfinished : List Unfinished) (left : List TreeEntry) (on : IsWorldOn g task w) (power : before ≡ record { given = options.stop; taken = 0 }) (all : LeadsReaches) (ran : machine.IsRan w before after pm history unfinished) (permits : Permitted w.start.mode w.start history unfinished left) where
+module _ (g : Geometry) (task : Task) (options : Options) (w : WorldView) (before after : Supply) (pm : List Cell) (history : List Item) (unfinished : List Unfinished) (left : List TreeEntry) (on : IsWorldOn g task w) (power : before ≡ record { given = options.stop; taken = 0 }) (all : LeadsReaches) (ran : machine.IsRan w before after pm history unfinished)
+    (permits : (calls : List Unfinished) → IsLeftAs g pm w.start history calls → Permitted w.start.mode w.start history calls left) where
   legal : IsLegal (beginning task) history
   legal = subst (λ s. IsLegal s history) on.start ran.legal
 
@@ -77,13 +80,26 @@ module _ (g : Geometry) (task : Task) (options : Options) (w : WorldView) (befor
   same_mode : (beginning task).mode ≡ task.mode
   same_mode = (has_setting task.image task.shape task.mode).1
 
-  permitted : Permitted task.mode (beginning task) history unfinished left
-  permitted =
-      subst (λ (m : Mode). Permitted m (beginning task) history unfinished left) same_mode
-      (subst (λ (s : State). Permitted s.mode s history unfinished left) on.start permits)
+  -- the tree is permitted with calls for which the promise is kept
+  permitted_with : (calls : List Unfinished) → IsLeftAs g pm w.start history calls → Permitted task.mode (beginning task) history calls left
+  permitted_with calls is =
+      subst (λ (m : Mode). Permitted m (beginning task) history calls left) same_mode
+      (subst (λ (s : State). Permitted s.mode s history calls left) on.start (permits calls is))
 
-  kept : task.mode ≢ Mode.Posix → (steps : ℕ) → options.stop ≡ Some steps → ChangesAtMost (beginning task) history steps
-  kept other steps some = subst (λ s. ChangesAtMost s history steps) on.start (ran.kept steps (ap (λ (p : Supply). p.given) power ∙ some))
+  permitted : Permitted task.mode (beginning task) history unfinished left
+  permitted = permitted_with unfinished (left_as g task w before after pm history unfinished on ran)
+
+  kept : task.mode ≢ Mode.Posix → (steps : ℕ) → options.stop ≡ Some steps → KeepsStop task history unfinished left steps
+  kept other steps some =
+      let is = ran.kept steps (ap (λ (p : Supply). p.given) power ∙ some) in
+      record {
+        acted = is.acted;
+        some = is.some;
+        permitted = permitted_with is.acted (left_with g task w before after pm history unfinished is.acted on ran is.promise);
+        changed = is.changed;
+        each = subst (λ s. ChangesTreeAtMost s history is.changed) on.start is.each;
+        most = is.most;
+      }
 
   afforded : Afforded after.taken history task.scripts task.mode
   afforded =

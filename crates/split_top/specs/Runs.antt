@@ -1,5 +1,5 @@
 -- What a run of scripts is: what it begins with, how it may end, and what it leaves.
-use Rattle.std.specs.Prelude.{◌≡◌, ◌≢◌, ◌⊎◌, ◌≤◌, ◌++◌, ⊤, ℕ, List, [], ◌∷◌, IsSome, None, Option, Some}
+use Rattle.std.specs.Prelude.{◌≡◌, ◌≢◌, ◌⊎◌, ◌≤◌, ◌+◌, ◌++◌, ⊤, ℕ, List, [], ◌∷◌, length, IsSome, None, Option, Some}
 use Rattle.posix_types.specs.declared.call.Mode.{Mode}
 use Rattle.posix_types.specs.declared.item.Item.{Item}
 use Rattle.posix_types.specs.declared.reply.Shape.{Shape}
@@ -16,7 +16,8 @@ use Rattle.split_machine.specs.crash_spec.Machine.{Setting}
 use Rattle.split_machine.specs.crash_spec.Permitted.{Permitted}
 use Rattle.split_machine.specs.crash_spec.Schedules.{Course, Scheduled}
 use Rattle.split_machine.specs.course_laws.Runs.{IsBegun}
-use Rattle.split_machine.specs.run_laws.Changes.{ChangesAtMost}
+use Rattle.split_machine.specs.run_laws.Acted.{AreSomeOf}
+use Rattle.split_machine.specs.run_laws.Changes.{ChangesTreeAtMost}
 
 -- WHAT IS RUN: scripts, on an image with this tree, this shape and so many lines of its log, in a mode.
 pub record Task : Type 0 where
@@ -77,9 +78,19 @@ pub record IsCut (options : Options) (events : ℕ) (calls unfinished : List Unf
   pub cut_is : options.cut ≡ Some events
   pub none_began : unfinished ≡ calls
 
+-- A STOP IS KEPT. Some of the unfinished calls acted, in their order: the mode permits the tree with these alone. And they and the calls of
+-- the history that changed the tree are together at most as many as steps were given.
+pub record KeepsStop (task : Task) (history : List Item) (unfinished : List Unfinished) (left : List TreeEntry) (steps : ℕ) : Type 0 where
+  pub acted : List Unfinished
+  pub some : AreSomeOf acted unfinished
+  pub permitted : Permitted task.mode (beginning task) history acted left
+  pub changed : ℕ
+  pub each : ChangesTreeAtMost (beginning task) history changed
+  pub most : changed + length acted ≤ steps
+
 -- A RUN ended with this history and these unfinished calls, and left this tree. The history is legal and follows the
 -- scripts, the unfinished calls are next calls of theirs, both are scheduled, and the mode permits the tree. It ended whole, or by a
--- stop, or by a cut; and outside POSIX mode at most so many calls made, removed or moved a name as steps were given.
+-- stop, or by a cut; and outside POSIX mode a stop is kept.
 pub record IsRun (task : Task) (options : Options) (history : List Item) (unfinished : List Unfinished)
     (left : List TreeEntry) : Type 0 where
   pub legal : IsLegal (beginning task) history
@@ -88,7 +99,7 @@ pub record IsRun (task : Task) (options : Options) (history : List Item) (unfini
   pub permitted : Permitted task.mode (beginning task) history unfinished left
   pub course : IsScheduled task options history unfinished
   pub ended : IsWhole task history unfinished left ⊎ (IsStopped task options history ⊎ IsCut options course.events course.calls unfinished)
-  pub kept : task.mode ≢ Mode.Posix → (steps : ℕ) → options.stop ≡ Some steps → ChangesAtMost (beginning task) history steps
+  pub kept : task.mode ≢ Mode.Posix → (steps : ℕ) → options.stop ≡ Some steps → KeepsStop task history unfinished left steps
 
 -- ---- laws
 -- without a cut and a stop a run is whole

@@ -1,6 +1,6 @@
 -- A call that is not logged, at the parts of a World.
 use Rattle.std.specs.Prelude.{◌≡◌, ◌+◌, ℕ, true, false, length, Option, Some, None, sum_by, refl}
-use Rattle.std.proofs.Common.{ap, ◌∙◌, sym, subst, inl}
+use Rattle.std.proofs.Common.{ap, ◌∙◌, sym, subst}
 use Rattle.pm_lines.specs.pm_model.Powers.{is_on, Supply}
 use Rattle.world_parts.specs.file_table.Files.{Files}
 use Rattle.world_parts.specs.k_split_model.View.{View}
@@ -11,7 +11,7 @@ use Rattle.posix_types.specs.declared.item.Outcome.{Outcome}
 use Rattle.call_laws.specs.file_truncate.Truncates as truncates
 use Rattle.call_laws.proofs.Running.{built_beside, built_unput, call_loses, call_lost, item_with_outcome, ran, returns, spent_by, stands_by}
 use Rattle.call_laws.proofs.Staying.{going_now, lacks_ends, lacks_over, stands_now}
-use Rattle.call_laws.proofs.Truncating.{truncate_lacks, truncate_loses, truncate_lost, truncate_room, truncate_stands, truncate_unput}
+use Rattle.call_laws.proofs.Truncating.{truncate_lacks, truncate_loses, truncate_lost, truncate_room, truncate_spent, truncate_stands, truncate_unput}
 use Rattle.world_parts.specs.in_flight.live_model.Standing.{JobOut, StandsAt}
 use Rattle.world_parts.specs.in_flight.live_model.world_model.JobLaws.{needs}
 use Rattle.call_laws.specs.write_begin.Needs.{JobsNeed, need_by}
@@ -111,8 +111,9 @@ module _ (p : Parts) (who : Who) (h : Handle) (size : ℕ) (turn : IsTurn p who 
 
   -- IT RETURNED,
   pub truncate_answered : (outcome : Outcome) → truncates.Answers who h size taken p.k p.files.tables p.data l d outcome → (before after : Supply) → KeepsEnds p.k p.data l d after → is_on after ≡ true
+      → truncates.IsSpent who h size taken p.k p.files.tables p.data before after
       → (r : Parts) → IsAdded who (Call.Truncate h size) outcome t r → IsKept r × Returns who (seen p) (seen r) before after
-  truncate_answered outcome answers before after keeps on r added =
+  truncate_answered outcome answers before after keeps on spent r added =
       let stood = truncate_stands p.k p.files.tables p.staging p.data (seen p) who h size turn.calls taken needs_them l d outcome answers in
       let item = item_with_outcome p.k p.files.tables p.staging p.data (seen p) who call turn.calls outcome stood.1 in
       let ends = keeps on in
@@ -120,7 +121,8 @@ module _ (p : Parts) (who : Who) (h : Handle) (size : ℕ) (turn : IsTurn p who 
         returned_kept p who call turn t refl r outcome item added (ran p.k p.files.tables p.staging p.data (seen p) who call turn.calls l p.files.tables d ends.0 (ends.1 its_ends) stood.0),
         subst (λ (v : WorldView). Returns who (seen p) v before after) (sym (returned_seen p who call turn t refl r outcome item added))
             (returns p.k p.files.tables p.staging p.data (seen p) who call turn.calls l p.files.tables d ends.0 (ends.1 its_ends) stood.0 before after (truncate_unput (state_of (seen p)) who h size)
-            (truncate_room p.k p.files.tables p.staging p.data (seen p) who h size turn.calls taken needs_them answers.enough) tt on (inl stood.2)),
+            (truncate_room p.k p.files.tables p.staging p.data (seen p) who h size turn.calls taken needs_them answers.enough) tt on
+            (truncate_spent p.k p.files.tables p.staging p.data (seen p) who h size turn.calls taken needs_them before after spent)),
       )
 
   -- found no room,

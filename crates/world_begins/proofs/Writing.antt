@@ -3,6 +3,7 @@ use Rattle.std.specs.Prelude.{◌≡◌, ◌+◌, ◌++◌, ℕ, true, false, Li
 use Rattle.std.proofs.Common.{◌∙◌, ap, sym, subst}
 use Rattle.world_parts.specs.pm_model.Powers.{is_on, Supply}
 use Rattle.world_parts.specs.file_table.Files.{Files}
+use Rattle.world_parts.specs.k_journal.Commits.{TakesAStep}
 use Rattle.world_parts.specs.layout_model.declared.lines.Draft.{Draft}
 use Rattle.world_parts.specs.k_split_model.View.{View}
 use Rattle.posix_types.specs.declared.call.Call.{Call}
@@ -105,13 +106,13 @@ module _ (p : Parts) (who : Who) (h : Handle) (at : Option ℕ) (x : List ℕ) (
         view_by u = record (seen p) { history = p.history.items ++ item_of (seen p) who (call_of h at x) ∷ []; acts = p.acts + 1; disk = disk_of l u s d }
 
         pub put_written : (outcome : Outcome) → outcome ≡ answer (Reply.Count (length x)) → (r : Parts) → IsAdded who (call_of h at x) outcome with_offset r
-            → (before after : Supply) → is_on after ≡ true → IsKept r × Returns who (seen p) (seen r) before after
-        put_written outcome is r added before after on =
+            → (before after : Supply) → is_on after ≡ true → TakesAStep before after → IsKept r × Returns who (seen p) (seen r) before after
+        put_written outcome is r added before after on took =
             let item = item_written p.k p.files.tables p.staging p.data (seen p) who h at x turn.calls p.mode (sym (mode_now p who (call_of h at x) turn)) law lines taken taken_now l s d keeps writes ∙ ap (item_with p.history.items who (call_of h at x)) (sym is) in (
               returned_kept p who (call_of h at x) turn with_offset refl r outcome item added
                   (subst (λ (u : Tables). IsWorldOver l u s d (view_by u)) (sym tables) (written p.k p.files.tables p.staging p.data (seen p) who h at x turn.calls p.mode (sym (mode_now p who (call_of h at x) turn)) law lines taken taken_now l s d keeps writes)),
               subst (λ (v : WorldView). Returns who (seen p) v before after) (sym (returned_seen p who (call_of h at x) turn with_offset refl r outcome item added))
-                  (subst (λ (u : Tables). Returns who (seen p) (view_by u) before after) (sym tables) (writes_now p.k p.files.tables p.staging p.data (seen p) who h at x turn.calls p.mode (sym (mode_now p who (call_of h at x) turn)) law lines taken taken_now l s d keeps writes before after on)),
+                  (subst (λ (u : Tables). Returns who (seen p) (view_by u) before after) (sym tables) (writes_now p.k p.files.tables p.staging p.data (seen p) who h at x turn.calls p.mode (sym (mode_now p who (call_of h at x) turn)) law lines taken taken_now l s d keeps writes before after on took)),
             )
 
     -- the round is over,

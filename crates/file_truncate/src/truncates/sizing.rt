@@ -52,7 +52,7 @@ fn set_now(
     requires room { reserve k.old.volume.geometry ≤ free_blocks_in k.old + 3 }
     requires line { ino < length data.old.sizes }
     ensures steps { Steps (2 ^ 15) power.old power.new }
-    ensures paid { IsTruncatePaid power.new result }
+    ensures paid { IsTruncatePaid power.old power.new result }
     ensures answer { IsSet ino size k.old data.old k.new data.new result }
 {
     match k.set_size(alloc, ino, size, power) {
@@ -82,7 +82,7 @@ pub(crate) fn give_size(
     requires line { ino < length data.old.sizes }
     requires published { (inode k.old.volume ino).size ≡ size_in data.old ino }
     ensures steps { Steps (2 ^ 16) power.old power.new }
-    ensures paid { IsTruncatePaid power.new result }
+    ensures paid { IsTruncatePaid power.old power.new result }
     ensures answer { IsGiven ino (size_in data.old ino) size k.old data.old k.new data.new result }
 {
     let old = data.size(ino);

@@ -1,4 +1,4 @@
-use Rattle.event_laws.proofs.Checks.{affords_lost, affords_whole, may_end, paid_is_paid_off}
+use Rattle.event_laws.proofs.Checks.{acted_between, affords_lost, affords_whole, may_end, paid_is_paid_off}
 use Rattle.event_laws.proofs.events.a_run_ends.Goals as goal
 
 pub returns-clause-may : goal.returns-clause-may
@@ -12,3 +12,6 @@ returns-clause-cut c = paid_is_paid_off
 
 pub returns-clause-whole : goal.returns-clause-whole
 returns-clause-whole c = affords_whole
+
+pub returns-clause-acted : goal.returns-clause-acted
+returns-clause-acted c = acted_between

@@ -2,7 +2,7 @@ use Rattle.std.specs.Prelude.{Option, Some}
 use Rattle.std.proofs.Common.{ap, ◌∙◌, subst}
 use Rattle.split_machine.specs.declared.outstanding.Acted.{Acted}
 use Rattle.split_machine.specs.Events.{IsStepped, seen}
-use Rattle.split_machine.proofs.Loop.{all_comes, led_first, lost_comes, reached_at_first, turn_led, turn_reached}
+use Rattle.split_machine.proofs.Loop.{all_comes, led_first, lost_comes, off_comes, off_ends, off_now, reached_at_first, turn_led, turn_reached}
 use Rattle.split_machine.proofs.runs.run_events.Goals as goal
 
 pub events-init : goal.events-init
@@ -10,6 +10,16 @@ events-init c = record {
   reached = reached_at_first c.args.world.now c.requires.first (seen c.args.out.now) c.requires.none c.args.power.now;
   led = λ order far. led_first c.args.world.now c.requires.first (seen c.args.out.now) c.requires.none c.args.picker.now c.args.cut order far;
 }
+
+pub returns-then-not-on-clause-ends : goal.returns-then-not-on-clause-ends
+returns-then-not-on-clause-ends c =
+    off_ends c.args.world.now c.args.picker.now c.args.cut c.args.power.now c.events.world (seen c.events.out) c.events.picker c.events.left c.events.power c.events.invariant.reached c.events.invariant.led
+    (off_now c.on.result c.events.power c.on.ensures c.if-not-on.true)
+
+pub returns-then-not-on-clause-comes : goal.returns-then-not-on-clause-comes
+returns-then-not-on-clause-comes c order far =
+    off_comes c.args.world.now c.args.picker.now c.args.cut c.args.power.now c.events.world (seen c.events.out) c.events.picker c.events.left c.events.power c.events.invariant.reached c.events.invariant.led
+    (off_now c.on.result c.events.power c.on.ensures c.if-not-on.true) (c.is_cut.ensures.more c.if-is_cut.false) order far
 
 pub returns-in_default-clause-comes : goal.returns-in_default-clause-comes
 returns-in_default-clause-comes c order far =

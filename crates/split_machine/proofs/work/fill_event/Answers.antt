@@ -1,6 +1,6 @@
 use Rattle.std.specs.Prelude.{◌*◌, ◌^◌, refl}
 use Rattle.std.proofs.Common.{arith}
-use Rattle.run_laws.proofs.Names.{Steps-more}
+use Rattle.run_laws.proofs.Longer.{Steps-more}
 use Rattle.split_machine.specs.Works as works
 use Rattle.split_machine.proofs.work.fill_event.Goals as goal
 

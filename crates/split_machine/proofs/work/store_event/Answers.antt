@@ -11,6 +11,7 @@ pub returns : goal.returns
 returns c w =
     works.Stores c.args.job c.args.slot c.on.result refl (record {
       steps = c.store.ensures.steps;
+      took = c.store.ensures.took;
       line = c.store.ensures.line;
       has = subst (λ d. HasStored (line_at c.args.log.now.lines c.args.slot).cells (entry_words d (c.args.log.now.base + c.args.slot)) (is_on c.store.new.power) (line_at c.store.new.self.lines c.args.slot).cells) c.draft.ensures.draft c.store.ensures.stored;
     }) c.on.ensures

@@ -37,10 +37,9 @@ returns-in_ok-left-in-Whole-clause-ran c task on =
     let found = c.in_ok-left-in-Whole.left.tree in
     let o = seen_options c.args.options.now in
     let ended = subst (λ order. IsWholeRun w order o.cut p q c.in-Whole.pm c.in-Whole.history.items) c.in_ok-order.ensures (subst (λ e. IsRunEnded w (seen_order c.in_ok-order.order) o.cut p q e) c.in-Whole.is c.in_ok-pm.ensures) in
-    let left = left_as c.args.geometry task w p q c.in-Whole.pm history [] on ended.ran in
     subst (λ unfinished. IsRun task o history unfinished found) (sym c.new.ensures.items)
     (ran_whole c.args.geometry task (seen_options c.args.options.now) w p q c.in-Whole.pm history [] found on c.power_for-power.ensures c.a_round_goes_beside.ensures.reaches ended.ran
-    (c.in_ok-left-in-Whole.ensures.permitted w.start history [] left) ended.complete refl ended.events ended.below ended.scheduled)
+    (λ calls left. c.in_ok-left-in-Whole.ensures.permitted w.start history calls left) ended.complete refl ended.events ended.below ended.scheduled)
 
 pub returns-in_ok-left-in-Lost-clause-ran : goal.returns-in_ok-left-in-Lost-clause-ran
 returns-in_ok-left-in-Lost-clause-ran c task on =
@@ -53,6 +52,5 @@ returns-in_ok-left-in-Lost-clause-ran c task on =
     let found = c.in_ok-left-in-Lost.left.tree in
     let o = seen_options c.args.options.now in
     let ended = subst (λ order. IsLostRun w order o.cut p q crashed.pm crashed.history.items unfinished) c.in_ok-order.ensures (subst (λ e. IsRunEnded w (seen_order c.in_ok-order.order) o.cut p q e) c.in-Lost.is c.in_ok-pm.ensures) in
-    let left = left_as c.args.geometry task w p q crashed.pm history unfinished on ended.ran in
     ran_lost c.args.geometry task (seen_options c.args.options.now) w p q crashed.pm history unfinished found on c.power_for-power.ensures c.a_round_goes_beside.ensures.reaches ended.ran
-    (c.in_ok-left-in-Lost.ensures.permitted w.start history unfinished left) ended.lost
+    (λ calls left. c.in_ok-left-in-Lost.ensures.permitted w.start history calls left) ended.lost

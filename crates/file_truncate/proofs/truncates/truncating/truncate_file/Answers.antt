@@ -6,7 +6,7 @@ use Rattle.posix_tables.specs.Room.{growth}
 use Rattle.file_calls.specs.open_files.Found.{description_in}
 use Rattle.file_truncate.specs.Truncates.{Answers}
 use Rattle.file_truncate.proofs.Asked.{line_there, live_file, published, reserve_there}
-use Rattle.file_truncate.proofs.Given.{given_ended, given_ends, leaves_less, refused_row, refused_unknown}
+use Rattle.file_truncate.proofs.Given.{given_ended, given_ends, leaves_less, refused_row, refused_unknown, row_spent, unknown_spent}
 use Rattle.file_truncate.proofs.Rows.{room_left, room_same, row_same}
 use Rattle.file_truncate.proofs.truncates.truncating.truncate_file.Goals as goal
 
@@ -16,6 +16,7 @@ returns-in_default-clause-ended c =
       subst (Answers c.args.who c.args.handle c.args.size c.args.needs c.args.k.now c.args.files.now.tables c.args.data.now c.args.k.now c.args.data.now) (sym c.answer.ensures)
           (refused_unknown c.args.who c.args.handle c.args.size c.args.needs c.args.k.now c.args.files.now.tables c.args.data.now none),
       c.requires.power,
+      unknown_spent c.args.who c.args.handle c.args.size c.args.needs c.args.k.now c.args.files.now.tables c.args.data.now none c.args.power.now c.args.power.now,
     )
 
 pub size-requires : goal.size-requires
@@ -32,6 +33,8 @@ returns-in-Answered-clause-ended c =
       refused_row c.args.who c.args.handle c.args.size c.args.needs c.args.k.now c.args.files.now.tables c.args.data.now c.kept_numbers_are_those_of_the_state.ensures.room (description_in c.in-Some.opened) known c.in-Answered.outcome
           (sym same ∙ c.in-Answered.ensures),
       c.requires.power,
+      row_spent c.args.who c.args.handle c.args.size c.args.needs c.args.k.now c.args.files.now.tables c.args.data.now c.kept_numbers_are_those_of_the_state.ensures.room (description_in c.in-Some.opened) known c.in-Answered.outcome
+          (sym same ∙ c.in-Answered.ensures) c.args.power.now c.args.power.now,
     )
 
 pub returns-in-Full-clause-ended : goal.returns-in-Full-clause-ended

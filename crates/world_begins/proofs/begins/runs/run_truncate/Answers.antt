@@ -27,12 +27,12 @@ lose_call-requires c = one_act c.args.p.now c.args.who (Call.Truncate c.args.han
 pub returns-in-Ok-Answered-clause-kept : goal.returns-in-Ok-Answered-clause-kept
 returns-in-Ok-Answered-clause-kept c usable =
     let ended = rw c.in-Ok-Answered.field-0-is at c.in-Ok-Answered.ensures.ended in
-    (truncate_answered c.args.p.now c.args.who c.args.handle c.args.size c.requires.turn c.jobs_need_what_their_calls_do.ensures c.needs_now-needs.result c.needs_now-needs.ensures c.truncate_file.new.k c.truncate_file.new.data c.in-Ok-Answered.outcome ended.0 c.args.power.now c.truncate_file.new.power c.in-Ok-Answered.ensures.ends ended.1 c.add.new.p c.add.ensures).0
+    (truncate_answered c.args.p.now c.args.who c.args.handle c.args.size c.requires.turn c.jobs_need_what_their_calls_do.ensures c.needs_now-needs.result c.needs_now-needs.ensures c.truncate_file.new.k c.truncate_file.new.data c.in-Ok-Answered.outcome ended.0 c.args.power.now c.truncate_file.new.power c.in-Ok-Answered.ensures.ends ended.1 ended.2 c.add.new.p c.add.ensures).0
 
 pub returns-in-Ok-Answered-clause-begun : goal.returns-in-Ok-Answered-clause-begun
 returns-in-Ok-Answered-clause-begun c =
     let ended = rw c.in-Ok-Answered.field-0-is at c.in-Ok-Answered.ensures.ended in
-    (truncate_answered c.args.p.now c.args.who c.args.handle c.args.size c.requires.turn c.jobs_need_what_their_calls_do.ensures c.needs_now-needs.result c.needs_now-needs.ensures c.truncate_file.new.k c.truncate_file.new.data c.in-Ok-Answered.outcome ended.0 c.args.power.now c.truncate_file.new.power c.in-Ok-Answered.ensures.ends ended.1 c.add.new.p c.add.ensures).1
+    (truncate_answered c.args.p.now c.args.who c.args.handle c.args.size c.requires.turn c.jobs_need_what_their_calls_do.ensures c.needs_now-needs.result c.needs_now-needs.ensures c.truncate_file.new.k c.truncate_file.new.data c.in-Ok-Answered.outcome ended.0 c.args.power.now c.truncate_file.new.power c.in-Ok-Answered.ensures.ends ended.1 ended.2 c.add.new.p c.add.ensures).1
 
 pub returns-in-Ok-PowerLost-clause-kept : goal.returns-in-Ok-PowerLost-clause-kept
 returns-in-Ok-PowerLost-clause-kept c usable =

@@ -2,6 +2,7 @@
 use Rattle.std.specs.Prelude.{◌≡◌, ◌⊎◌, ◌<◌, ◌≤◌, ◌+◌, ◌-◌, ◌||◌, ℕ, Bool, true, false, nat_lt, List, [], ◌∷◌, ◌++◌, map, Option, None, Some, refl}
 use Rattle.std.specs.List.{list_any}
 use Rattle.std.proofs.Common.{arith, ap, ◌∙◌, sym, subst, inl, inr}
+use Rattle.std.proofs.lemmas.Bool.{ltb-false}
 use Rattle.std.proofs.lemmas.List.{map-append}
 use Rattle.std.specs.Option.{option_map_or}
 use Rattle.std.proofs.lemmas.List.Folds.{list_any-append}
@@ -11,24 +12,24 @@ use Rattle.world_view_laws.specs.posix_types.declared.call.Call.{Call}
 use Rattle.world_view_laws.specs.posix_types.declared.call.Who.{Who}
 use Rattle.world_view_laws.specs.posix_types.declared.item.Item.{Item}
 use Rattle.world_view_laws.specs.posix_tables.Open.{same_who}
-use Rattle.world_view_laws.specs.posix_laws.PutLaws.{LeavesWhole-put}
 use Rattle.world_view_laws.specs.posix_spec.Afforded.{moves_data}
 use Rattle.world_view_laws.specs.posix_spec.Put.{Put, put_by}
-use Rattle.world_view_laws.specs.posix_spec.Run.{after_call, run}
+use Rattle.world_view_laws.specs.posix_spec.Run.{run}
 use Rattle.world_view_laws.specs.posix_spec.State.{State}
+use Rattle.world_view_laws.specs.posix_spec.Tree.{tree}
 use Rattle.world_view_laws.specs.crash_spec.Busy.{is_logged, is_logged_put}
 use Rattle.world_view_laws.specs.Views.{WorldView}
-use Rattle.run_laws.specs.Changes.{after_item, ChangesAtMost}
-use Rattle.run_laws.specs.Paid.{has_moved, KeepsGiven, KeepsNames}
+use Rattle.run_laws.specs.Changes.{after_item, ChangesTreeAtMost}
+use Rattle.run_laws.specs.Paid.{has_moved, KeepsGiven, KeepsTree}
 
--- ---- changes of names
+-- ---- changes of the tree
 
-pub same_names : (s : State) (items : List Item) (item : Item) (n : ℕ) → ChangesAtMost s items n → (after_item (run s items) item).entries ≡ (run s items).entries → ChangesAtMost s (items ++ item ∷ []) n
-same_names s [] item n most stays = inl (stays, tt)
-same_names s (x ∷ items) item n (inl own) stays = inl (own.0, same_names (after_item s x) items item n own.1 stays)
-same_names s (x ∷ items) item n (inr one) stays = inr (one.0, one.1, same_names (after_item s x) items item one.0 one.2 stays)
+pub same_tree : (s : State) (items : List Item) (item : Item) (n : ℕ) → ChangesTreeAtMost s items n → tree (after_item (run s items) item) ≡ tree (run s items) → ChangesTreeAtMost s (items ++ item ∷ []) n
+same_tree s [] item n most stays = inl (stays, tt)
+same_tree s (x ∷ items) item n (inl own) stays = inl (own.0, same_tree (after_item s x) items item n own.1 stays)
+same_tree s (x ∷ items) item n (inr one) stays = inr (one.0, one.1, same_tree (after_item s x) items item one.0 one.2 stays)
 
-pub one_change : (s : State) (items : List Item) (item : Item) (n : ℕ) → ChangesAtMost s items n → ChangesAtMost s (items ++ item ∷ []) (n + 1)
+pub one_change : (s : State) (items : List Item) (item : Item) (n : ℕ) → ChangesTreeAtMost s items n → ChangesTreeAtMost s (items ++ item ∷ []) (n + 1)
 one_change s [] item n most = inr (n, refl, tt)
 one_change s (x ∷ items) item n (inl own) = inl (own.0, one_change (after_item s x) items item n own.1)
 one_change s (x ∷ items) item n (inr one) = inr (one.0 + 1, ap (λ k. k + 1) one.1, one_change (after_item s x) items item one.0 one.2)
@@ -100,13 +101,6 @@ logged_moves s who call is = by (put_by s who call) refl where
   by None none = (let never : true ≡ false = sym is ∙ none_logged s who call none in cc)
   by (Some put) some = put_moves s who call put some
 
--- and leaves the names
-pub logged_keeps : (s : State) (who : Who) (call : Call) → is_logged s (who, call) ≡ true → (after_call s (who, call)).entries ≡ s.entries
-logged_keeps s who call is = by (put_by s who call) refl where
-  by : (o : Option Put) → put_by s who call ≡ o → (after_call s (who, call)).entries ≡ s.entries
-  by None none = (let never : true ≡ false = sym is ∙ none_logged s who call none in cc)
-  by (Some put) some = (LeavesWhole-put s who call put some).entries
-
 -- ---- supplies
 
 pub on_below : (given : ℕ) (p : Supply) → p.given ≡ Some given → is_on p ≡ true → p.taken < given
@@ -114,51 +108,87 @@ on_below given p is on = below p.taken given (sym (ap (λ g. is_left g p.taken) 
   below : (m n : ℕ) → nat_lt m n ≡ true → m < n
   below m n is = grind arith
 
+pub off_past : (given : ℕ) (p : Supply) → p.given ≡ Some given → is_on p ≡ false → given ≤ p.taken
+off_past given p is off = ltb-false p.taken given (sym (ap (λ g. is_left g p.taken) is) ∙ off)
+
 -- at most as many steps as a greater number
 pub Steps-more : (m n : ℕ) (a b : Supply) → m ≤ n → Steps m a b → Steps n a b
 Steps-more m n a b least steps = record { given = steps.given; on_before = steps.on_before; later = steps.later; bound = omega (arith, steps.bound, least) }
 
--- ---- kept names
+-- ---- steps for the changes of the tree
 
--- the same history, later
-pub names_later : (first now after : Supply) (w v : WorldView) (given n : ℕ) → v.start ≡ w.start → v.history ≡ w.history → Steps n now after → KeepsNames first now w given → KeepsNames first after v given
-names_later first now after w v given n start history steps kept = record {
+-- the same history, later, with no more steps ahead of their calls
+pub tree_later : (first now after : Supply) (w v : WorldView) (early left given n : ℕ) → v.start ≡ w.start → v.history ≡ w.history → left ≤ early → Steps n now after → KeepsTree first now w early given → KeepsTree first after v left given
+tree_later first now after w v early left given n start history fewer steps kept = record {
   changed = kept.changed;
-  fewer = omega (arith, kept.fewer, steps.later);
-  most = kept.most;
-  each = subst (λ (s : State). ChangesAtMost s v.history kept.changed) (sym start) (subst (λ (h : List Item). ChangesAtMost w.start h kept.changed) (sym history) kept.each);
+  fewer = omega (arith, kept.fewer, steps.later, fewer);
+  most = omega (arith, kept.most, fewer);
+  each = subst (λ (s : State). ChangesTreeAtMost s v.history kept.changed) (sym start) (subst (λ (h : List Item). ChangesTreeAtMost w.start h kept.changed) (sym history) kept.each);
 }
 
--- one call more, which left the names or took a step
-pub names_more : (first now after : Supply) (w v : WorldView) (item : Item) (given n : ℕ) → v.start ≡ w.start → v.history ≡ w.history ++ item ∷ [] → now.given ≡ Some given → is_on after ≡ true → Steps n now after
-    → ((after_item (run w.start w.history) item).entries ≡ (run w.start w.history).entries) ⊎ TakesAStep now after → KeepsNames first now w given → KeepsNames first after v given
-names_more first now after w v item given n start history given_now on steps spent kept = by spent where
-  most : (m : ℕ) → ChangesAtMost w.start (w.history ++ item ∷ []) m → ChangesAtMost v.start v.history m
-  most m few = subst (λ (s : State). ChangesAtMost s v.history m) (sym start) (subst (λ (h : List Item). ChangesAtMost w.start h m) (sym history) few)
+-- the power went: a step was taken in which it did
+pub tree_off : (first now after : Supply) (w v : WorldView) (early left given n : ℕ) → v.start ≡ w.start → v.history ≡ w.history → now.given ≡ Some given → is_on now ≡ true → is_on after ≡ false → left ≤ early + 1 → Steps n now after
+    → KeepsTree first now w early given → KeepsTree first after v left given
+tree_off first now after w v early left given n start history given_now on off one steps kept =
+    let below = on_below given now given_now on in
+    let past = off_past given after (steps.given ∙ given_now) off in
+    record {
+      changed = kept.changed;
+      fewer = omega (arith, kept.fewer, below, past, one);
+      most = omega (arith, kept.fewer, below, one);
+      each = subst (λ (s : State). ChangesTreeAtMost s v.history kept.changed) (sym start) (subst (λ (h : List Item). ChangesTreeAtMost w.start h kept.changed) (sym history) kept.each);
+    }
 
-  by : ((after_item (run w.start w.history) item).entries ≡ (run w.start w.history).entries) ⊎ TakesAStep now after → KeepsNames first after v given
-  by (inl stays) = record {
+-- a step more, ahead of its call
+pub tree_ahead : (first now after : Supply) (w : WorldView) (early left given n : ℕ) → now.given ≡ Some given → is_on after ≡ true → left ≡ early + 1 → Steps n now after → TakesAStep now after → KeepsTree first now w early given
+    → KeepsTree first after w left given
+tree_ahead first now after w early left given n given_now on one steps takes kept =
+    let more = takes given given_now in
+    let below = on_below given after (steps.given ∙ given_now) on in
+    record {
+      changed = kept.changed;
+      fewer = omega (arith, kept.fewer, more, one);
+      most = omega (arith, kept.fewer, more, below, one);
+      each = kept.each;
+    }
+
+module _ (first now after : Supply) (w v : WorldView) (item : Item) (early given n : ℕ) (start : v.start ≡ w.start) (history : v.history ≡ w.history ++ item ∷ []) (steps : Steps n now after) (kept : KeepsTree first now w early given) where
+  most_by : (m : ℕ) → ChangesTreeAtMost w.start (w.history ++ item ∷ []) m → ChangesTreeAtMost v.start v.history m
+  most_by m few = subst (λ (s : State). ChangesTreeAtMost s v.history m) (sym start) (subst (λ (h : List Item). ChangesTreeAtMost w.start h m) (sym history) few)
+
+  -- one call more, which left the tree or took a step
+  pub tree_more : now.given ≡ Some given → is_on after ≡ true → (tree (after_item (run w.start w.history) item) ≡ tree (run w.start w.history)) ⊎ TakesAStep now after → KeepsTree first after v early given
+  tree_more given_now on (inl stays) = record {
     changed = kept.changed;
     fewer = omega (arith, kept.fewer, steps.later);
     most = kept.most;
-    each = most kept.changed (same_names w.start w.history item kept.changed kept.each stays);
+    each = most_by kept.changed (same_tree w.start w.history item kept.changed kept.each stays);
   }
-  by (inr takes) =
+  tree_more given_now on (inr takes) =
       let more = takes given given_now in
       let below = on_below given after (steps.given ∙ given_now) on in
       record {
         changed = kept.changed + 1;
         fewer = omega (arith, kept.fewer, more);
         most = omega (arith, kept.fewer, more, below);
-        each = most (kept.changed + 1) (one_change w.start w.history item kept.changed kept.each);
+        each = most_by (kept.changed + 1) (one_change w.start w.history item kept.changed kept.each);
       }
+
+  -- one call more, whose step was taken ahead of it
+  pub tree_paid : (left : ℕ) → early ≡ left + 1 → KeepsTree first after v left given
+  tree_paid left one = record {
+    changed = kept.changed + 1;
+    fewer = omega (arith, kept.fewer, steps.later, one);
+    most = omega (arith, kept.most, one);
+    each = most_by (kept.changed + 1) (one_change w.start w.history item kept.changed kept.each);
+  }
 
 -- ---- a given number of steps
 
-weaker : (s : State) (items : List Item) (n k : ℕ) → ChangesAtMost s items n → n ≤ k → ChangesAtMost s items k
+weaker : (s : State) (items : List Item) (n k : ℕ) → ChangesTreeAtMost s items n → n ≤ k → ChangesTreeAtMost s items k
 weaker s [] n k most least = tt
 weaker s (x ∷ items) n k (inl own) least = inl (own.0, weaker (after_item s x) items n k own.1 least)
 weaker s (x ∷ items) n k (inr one) least = inr (k - 1, omega (arith, one.1, least), weaker (after_item s x) items one.0 (k - 1) one.2 (omega (arith, one.1, least)))
 
 pub keeps_given : KeepsGiven
-keeps_given first now w given kept = weaker w.start w.history kept.changed given kept.each kept.most
+keeps_given first now w early given kept = weaker w.start w.history kept.changed given kept.each (let most = kept.most in omega (arith, most))

@@ -1,0 +1,12 @@
+pub mod Places
+pub mod Hands
+pub mod Turned
+pub mod Closing
+pub mod Started
+pub mod Entered
+pub mod Dealt
+pub mod Showing
+pub mod OneWorker
+pub mod Parting
+pub mod Ending
+pub mod Opened

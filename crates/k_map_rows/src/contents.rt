@@ -2,11 +2,10 @@
 ghost use Rattle.k_map_tests.specs.Calls.{IsFresh};
 
 use crate::publishing::Three;
-use crate::texts::Text;
 use file_overlay::Run;
 use k_map_tests::block_bytes;
 use k_split::KSplit;
-use test_kit::RowError;
+use test_kit::{RowError, Text};
 
 // How many blocks of a file are looked at.
 const BLOCKS: u32 = 8;

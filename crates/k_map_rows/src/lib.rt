@@ -37,5 +37,3 @@ mod runs;
 mod shown;
 #[cfg(test)]
 mod stops;
-#[cfg(test)]
-mod texts;

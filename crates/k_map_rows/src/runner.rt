@@ -10,12 +10,11 @@ use crate::publishing::three_runs;
 use crate::reading::{first_word, numbers};
 use crate::shown::{put_bytes, put_map, put_reply};
 use crate::stops::{asked_of, done, line_stopped};
-use crate::texts::{Text, row_told};
 use k_map_tests::{MapCall, Reply, begun, left, made, opened};
 use k_split::KSplit;
 use pm_lines::Power;
 use std::alloc::Global;
-use test_kit::{RowError, asked, option, small_number};
+use test_kit::{RowError, Text, asked, option, row_told, small_number};
 
 // Fills every second block of a file from block 0 on, each by a call.
 fn spread(alloc: Global, k: &mut KSplit, ino: u32, count: u32) -> Result<Reply, RowError>

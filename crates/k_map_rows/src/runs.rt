@@ -7,7 +7,6 @@ ghost use Rattle.k_map_tests.specs.Calls.{IsFresh};
 ghost use Rattle.k_map_rows.specs.Calm.{IsCalm, IsCalmAfter, IsCalmDone};
 
 use crate::reading::{first_word, numbers};
-use crate::texts::{Text, row_told};
 use k_check::{Commit, Geometry};
 use k_map_tests::fresh;
 use k_split::KSplit;
@@ -15,7 +14,7 @@ use pm_lines::Power;
 use staging_files::{StageFault, StageRun, Staging};
 use std::alloc::{AllocError, Global};
 use std::test::Fail;
-use test_kit::{RowError, asked, assert_rows, option, small_number};
+use test_kit::{RowError, Text, asked, assert_rows, option, row_told, small_number};
 
 const RUNS: &str = "\
 # Worked by hand: 247 data blocks. Four runs of 33 lie at the start of the four staging files, and the fifth finds no room, since
@@ -129,7 +128,7 @@ fn tell_run(
             Ok(())
         }
         Err(StageFault::PowerLost) => Err(RowError::PowerLost),
-        Err(StageFault::NoMemory) => Err(RowError::NoMemory(AllocError)),
+        Err(StageFault::NoMemory) => Err(RowError::NoMemory),
     }
 }
 
@@ -159,7 +158,7 @@ fn tell_given_up(
             Ok(())
         }
         Ok(Commit::PowerLost) => Err(RowError::PowerLost),
-        Err(error) => Err(RowError::NoMemory(error)),
+        Err(_) => Err(RowError::NoMemory),
     }
 }
 

@@ -1,12 +1,11 @@
 //! Replies, and what a K-Split shows of its maps and bytes, as rows spell it.
 ghost use Rattle.k_map_tests.specs.Calls.{IsFresh};
 
-use crate::texts::Text;
 use k_map_tests::{Reply, block_bytes, map_text};
 use k_split::KSplit;
 use posix_types::{Room, What};
 use std::alloc::Global;
-use test_kit::RowError;
+use test_kit::{RowError, Text};
 
 fn put_room(text: &mut Text, room: Room) {
     let what = match room.what {

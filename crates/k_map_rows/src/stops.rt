@@ -7,13 +7,12 @@ use crate::contents::{add_content, applied};
 use crate::publishing::{no_runs, published, three_runs};
 use crate::reading::{call_of, first_word, numbers};
 use crate::shown::put_map;
-use crate::texts::Text;
 use k_check::Commit;
 use k_map_tests::{MapCall, Reply, apply, left, opened};
 use k_split::KSplit;
 use pm_lines::{Choice, Pm, Power};
 use std::alloc::Global;
-use test_kit::RowError;
+use test_kit::{RowError, Text};
 
 const CHOICES: [Choice; 4] = [Choice::Oldest, Choice::Newest, Choice::Even, Choice::Odd];
 

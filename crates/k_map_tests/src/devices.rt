@@ -26,10 +26,7 @@ fn checked(alloc: Global, pm: &Pm) -> Result<Geometry, RowError>
     match check(alloc, pm) {
         Ok(geometry) => Ok(geometry),
         Err(CheckFault::NoMemory) => Err(RowError::Misspelled),
-        Err(CheckFault::Bad(bad)) => Err(RowError::Damaged {
-            rule: bad.rule,
-            place: bad.place,
-        }),
+        Err(CheckFault::Bad(_)) => Err(RowError::Damaged),
     }
 }
 

@@ -2,8 +2,8 @@
 //!
 //! The calls stand in templates, parted by `;`, of which one is drawn: small letters stand for themselves, and each great one for a word
 //! or a number that is drawn: a handle `H`, a path `P`, flags `F`, a byte `B`, an offset `N`, a count `C` and a short one `S`.
-use std::alloc::{AllocError, Global};
-use test_kit::Draws;
+use std::alloc::Global;
+use test_kit::{Draws, Text};
 
 const HANDLES: &str = "close H;dup H H;open H P F;open H P F;open H P F;open H P F";
 
@@ -50,64 +50,41 @@ fn numbers_of(letter: char) -> (u64, u64) {
 }
 
 // Adds what a letter of a template stands for.
-fn add_letter(script: &mut String, draws: &mut Draws, letter: char) -> Result<(), AllocError> {
+fn put_letter(script: &mut Text, draws: &mut Draws, letter: char) {
     let words = words_of(letter);
-    if !words.is_empty() {
-        return script.push_str(one_of(draws, words, ' '));
-    }
     let (least, count) = numbers_of(letter);
-    if count == 0 {
-        return script.push(letter);
+    if !words.is_empty() {
+        script.put(one_of(draws, words, ' '));
+    } else if count > 0 {
+        script.put_number(draws.wide_below(count).saturating_add(least));
+    } else {
+        script.put_char(letter);
     }
-    let number = draws.wide_below(count).saturating_add(least);
-    write!(script, "{number}")
-}
-
-// Adds a call of a template.
-fn add_call(script: &mut String, draws: &mut Draws, template: &str) -> Result<(), AllocError> {
-    for letter in template.chars() {
-        add_letter(script, draws, letter)?;
-    }
-    script.push('\n')
 }
 
 // Adds so many calls of one thread.
-fn add_calls(script: &mut String, draws: &mut Draws, calls: u64) -> Result<(), AllocError> {
+pub(crate) fn put_calls(script: &mut Text, draws: &mut Draws, calls: u64) {
     for _ in 0..calls {
         let kind = CALLS[draws.below(16) as usize];
         let template = one_of(draws, kind, ';');
-        add_call(script, draws, template)?;
+        put_call(script, draws, template);
     }
-    Ok(())
 }
 
-// So many calls of one thread.
-pub(crate) fn drawn_script(
-    alloc: Global,
-    draws: &mut Draws,
-    calls: u64,
-) -> Result<String, AllocError> {
-    let mut script = String::new(alloc);
-    add_calls(&mut script, draws, calls)?;
-    Ok(script)
+// Adds a call of a template.
+fn put_call(script: &mut Text, draws: &mut Draws, template: &str) {
+    for letter in template.chars() {
+        put_letter(script, draws, letter);
+    }
+    script.put("\n");
 }
 
-// Adds a thread of so many calls.
-fn add_thread(script: &mut String, draws: &mut Draws, calls: u64) -> Result<(), AllocError> {
-    script.push_str("thread\n")?;
-    add_calls(script, draws, calls)
-}
-
-// So many calls of each of two threads.
-pub(crate) fn drawn_threads(
-    alloc: Global,
-    draws: &mut Draws,
-    calls: u64,
-) -> Result<String, AllocError> {
-    let mut script = String::new(alloc);
-    add_thread(&mut script, draws, calls)?;
-    add_thread(&mut script, draws, calls)?;
-    Ok(script)
+// Adds so many calls of each of two threads.
+pub(crate) fn put_threads(script: &mut Text, draws: &mut Draws, calls: u64) {
+    script.put("thread\n");
+    put_calls(script, draws, calls);
+    script.put("thread\n");
+    put_calls(script, draws, calls);
 }
 
 // ---- changes of names
@@ -117,53 +94,32 @@ const CHANGES: &str =
     "mkdir 1;list 2,open h 1 wcx;close h,rmdir 1;list 2,unlink 1;stat 2,list /,rename 1 2;list 2,rename 1 2;list 2";
 
 // A path of one to three names of four.
-fn deep_path(alloc: Global, draws: &mut Draws) -> Result<String, AllocError> {
-    let mut path = String::new(alloc);
+fn deep_path(alloc: Global, draws: &mut Draws) -> Text {
+    let mut path = Text::new(alloc);
     for _ in 0..draws.below(3) + 1 {
-        path.push_str(one_of(draws, "/a /b /c /d", ' '))?;
+        path.put(one_of(draws, "/a /b /c /d", ' '));
     }
-    Ok(path)
+    path
 }
 
 // Adds the calls of a template with two paths.
-fn add_filled(
-    script: &mut String,
-    template: &str,
-    one: &str,
-    other: &str,
-) -> Result<(), AllocError> {
+fn put_filled(script: &mut Text, template: &str, one: &Text, other: &Text) {
     for letter in template.chars() {
         match letter {
-            '1' => script.push_str(one)?,
-            '2' => script.push_str(other)?,
-            ';' => script.push('\n')?,
-            _ => script.push(letter)?,
+            '1' => script.put_text(one),
+            '2' => script.put_text(other),
+            ';' => script.put("\n"),
+            _ => script.put_char(letter),
         }
     }
-    script.push('\n')
+    script.put("\n");
 }
 
-// Adds a call that changes a name, and one that lists a directory.
-fn add_change(alloc: Global, script: &mut String, draws: &mut Draws) -> Result<(), AllocError> {
-    let one = deep_path(alloc, draws)?;
-    let other = deep_path(alloc, draws)?;
-    add_filled(
-        script,
-        one_of(draws, CHANGES, ','),
-        one.as_str(),
-        other.as_str(),
-    )
-}
-
-// So many changes of names by one thread.
-pub(crate) fn drawn_changes(
-    alloc: Global,
-    draws: &mut Draws,
-    changes: u64,
-) -> Result<String, AllocError> {
-    let mut script = String::new(alloc);
+// Adds so many changes of names by one thread, each with a call that lists a directory.
+pub(crate) fn put_changes(script: &mut Text, alloc: Global, draws: &mut Draws, changes: u64) {
     for _ in 0..changes {
-        add_change(alloc, &mut script, draws)?;
+        let one = deep_path(alloc, draws);
+        let other = deep_path(alloc, draws);
+        put_filled(script, one_of(draws, CHANGES, ','), &one, &other);
     }
-    Ok(script)
 }

@@ -1,7 +1,6 @@
 //! Rounds that end while calls are in flight. All rows are worked by hand.
-use split_tables::{losses_told, session_told};
+use crate::parts::{assert_losses, assert_sessions};
 use std::test::Fail;
-use test_kit::assert_rows;
 
 const EVENTS: &str = "\
 # Four lines of the log, five threads in turn. Five opens, 5 times Begin, 5 times Fill; four claims, and the fifth, which finds the
@@ -69,12 +68,10 @@ tree = / dir; /a file 98304 63*98304; /b file 16384 62*16384
 
 #[test]
 fn rounds_end_with_calls_in_flight(rt: HostRuntime) -> Result<(), Fail> {
-    assert_rows(&rt, EVENTS, 3, &session_told)?;
-    Ok(())
+    assert_sessions(&rt, EVENTS, 3)
 }
 
 #[test]
 fn losses_where_rounds_end(rt: HostRuntime) -> Result<(), Fail> {
-    assert_rows(&rt, LOSSES, 2, &losses_told)?;
-    Ok(())
+    assert_losses(&rt, LOSSES, 2)
 }

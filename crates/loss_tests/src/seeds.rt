@@ -3,11 +3,9 @@
 //! Of 16 writes four have a line of the log at a time, so that rounds end with calls that are given up; and one file has most of
 //! the room, so that it is short while writes are in flight. Each run is that of the model. Then the power goes, so many steps
 //! apart, each time with one of the choices in turn, and what is left is judged.
-use crate::parts::assert_none;
-use split_tables::{Case, Stops, forbidden_in_turn};
+use split_tables::{Case, Stops, are_permitted_in_turn};
 use std::alloc::Global;
-use std::test::Fail;
-use test_kit::RowError;
+use test_kit::Text;
 
 const SCRIPT: &str = "\
 setup
@@ -75,66 +73,62 @@ close h
 // Every how many steps the power goes: 8 times 13. All stops that are 13 apart are tried by `tools/threads.py`.
 const EVERY: u64 = 104;
 
-// The script in a mode, by a seed.
-fn case_of(alloc: Global, mode: &str, seed: u64) -> Result<Case, RowError> {
-    let order = format!(in alloc; "seed {seed}")?;
-    Case::ordered(alloc, mode, "64 4 16 16", SCRIPT, order.as_str())
-}
-
 // Whether the losses of a run are right, of which the first one is behind the set-up.
-fn are_losses_right(alloc: Global, case: &Case, seed: u64) -> Result<bool, RowError> {
+fn are_losses_right(alloc: Global, case: &Case, seed: u64) -> bool {
     let first = seed.saturating_mul(13) % EVERY;
-    let stops = Stops::of_all(alloc, case, first.saturating_add(18_600), EVERY)?;
-    Ok(forbidden_in_turn(alloc, case, &stops)?.is_none())
+    match Stops::of_all(alloc, case, first.saturating_add(18_600), EVERY) {
+        Some(stops) => are_permitted_in_turn(alloc, case, &stops),
+        None => false,
+    }
 }
 
 // Whether a run and its losses are right.
-fn is_case_right(alloc: Global, case: &Case, seed: u64) -> Result<bool, RowError> {
-    Ok(case.calls() == 51 && case.runs_as_told(alloc)? && are_losses_right(alloc, case, seed)?)
+fn is_case_right(alloc: Global, case: &Case, seed: u64) -> bool {
+    case.calls() == 51 && case.runs_as_told(alloc) && are_losses_right(alloc, case, seed)
 }
 
-// Whether the run of a seed is right.
-fn is_seed_right(alloc: Global, mode: &str, seed: u64) -> Result<bool, RowError> {
-    let case = case_of(alloc, mode, seed)?;
-    is_case_right(alloc, &case, seed)
+// Whether the run of a seed in a mode is right.
+fn is_seed_right(alloc: Global, mode: &str, seed: u64) -> bool {
+    let mut order = Text::new(alloc);
+    order.put("seed ");
+    order.put_number(seed);
+    match Case::ordered(alloc, mode, "64 4 16 16", SCRIPT, order.as_str()) {
+        Ok(case) => order.is_whole() && is_case_right(alloc, &case, seed),
+        Err(_) => false,
+    }
 }
 
 // The first of these seeds of which the run goes wrong.
-fn wrong_seed(alloc: Global, mode: &str, first: u64, last: u64) -> Result<Option<u64>, RowError> {
+fn wrong_seed(alloc: Global, mode: &str, first: u64, last: u64) -> Option<u64> {
     for seed in first..last {
-        if !is_seed_right(alloc, mode, seed)? {
-            return Ok(Some(seed));
+        if !is_seed_right(alloc, mode, seed) {
+            return Some(seed);
         }
     }
-    Ok(None)
-}
-
-// Asserts that the runs of these seeds go right in a mode.
-fn assert_seeds(rt: &HostRuntime, mode: &str, first: u64, last: u64) -> Result<(), Fail> {
-    assert_none(rt, wrong_seed(rt.alloc(), mode, first, last)?)
+    None
 }
 
 #[test]
-fn seeds_below_11(rt: HostRuntime) -> Result<(), Fail> {
-    assert_seeds(&rt, "strict", 1, 11)
+fn seeds_below_11(rt: HostRuntime) {
+    assert_eq!(rt; wrong_seed(rt.alloc(), "strict", 1, 11), None);
 }
 
 #[test]
-fn seeds_below_21(rt: HostRuntime) -> Result<(), Fail> {
-    assert_seeds(&rt, "strict", 11, 21)
+fn seeds_below_21(rt: HostRuntime) {
+    assert_eq!(rt; wrong_seed(rt.alloc(), "strict", 11, 21), None);
 }
 
 #[test]
-fn seeds_below_31(rt: HostRuntime) -> Result<(), Fail> {
-    assert_seeds(&rt, "strict", 21, 31)
+fn seeds_below_31(rt: HostRuntime) {
+    assert_eq!(rt; wrong_seed(rt.alloc(), "strict", 21, 31), None);
 }
 
 #[test]
-fn seeds_below_41(rt: HostRuntime) -> Result<(), Fail> {
-    assert_seeds(&rt, "strict", 31, 41)
+fn seeds_below_41(rt: HostRuntime) {
+    assert_eq!(rt; wrong_seed(rt.alloc(), "strict", 31, 41), None);
 }
 
 #[test]
-fn seeds_below_51_in_sync_mode(rt: HostRuntime) -> Result<(), Fail> {
-    assert_seeds(&rt, "sync", 41, 51)
+fn seeds_below_51_in_sync_mode(rt: HostRuntime) {
+    assert_eq!(rt; wrong_seed(rt.alloc(), "sync", 41, 51), None);
 }

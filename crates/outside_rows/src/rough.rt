@@ -51,33 +51,39 @@ impl Read for RoughReader {
     }
 }
 
-// How many bytes a reader of three gives, one of whose calls fails, or the kind of its failure.
-fn rough_read(alloc: Global, fails_at: u8, kind: ErrorKind) -> Result<usize, ErrorKind> {
+// Whether a reader of three bytes is read whole, or gives an error of this kind, where one of its calls fails so.
+fn is_read(alloc: Global, fails_at: u8, kind: ErrorKind, error: Option<ErrorKind>) -> bool {
     let mut reader = RoughReader {
         left: 3,
         rough: Rough::new(fails_at, kind),
     };
     match read_whole(alloc, &mut reader) {
-        Ok(bytes) => Ok(bytes.len()),
-        Err(ReadFault::Broken(kind)) => Err(kind),
-        Err(ReadFault::TooLong) => Err(ErrorKind::FileTooLarge),
+        Ok(bytes) => error.is_none() && bytes.len() == 3,
+        Err(ReadFault::Broken(kind)) => error == Some(kind),
+        Err(ReadFault::TooLong) => false,
     }
+}
+
+// Whether a call that is interrupted is made again, and one that fails gives its failure.
+fn are_read(alloc: Global, fails_at: u8) -> bool {
+    let late = ErrorKind::TimedOut;
+    is_read(alloc, fails_at, ErrorKind::Interrupted, None)
+        && is_read(alloc, fails_at, late, Some(late))
+}
+
+// The first call with which that is not so.
+fn wrong_call(alloc: Global) -> Option<u8> {
+    for fails_at in 1..5 {
+        if !are_read(alloc, fails_at) {
+            return Some(fails_at);
+        }
+    }
+    None
 }
 
 #[test]
 fn readers_that_fail_once(rt: HostRuntime) {
-    for fails_at in 1..5 {
-        for (kind, wanted) in [
-            (ErrorKind::Interrupted, Ok(3)),
-            (ErrorKind::TimedOut, Err(ErrorKind::TimedOut)),
-        ] {
-            assert_eq!(rt;
-                rough_read(rt.alloc(), fails_at, kind),
-                wanted,
-                "call {fails_at}"
-            );
-        }
-    }
+    assert_eq!(rt; wrong_call(rt.alloc()), None);
 }
 
 // A writer that takes one byte a call, and holds what it takes until it is flushed.
@@ -107,30 +113,38 @@ impl Write for RoughWriter {
     }
 }
 
-// Whether six bytes are put, how many of them are taken, and how many of these are flushed, where
-// one of the calls fails.
-fn rough_put(alloc: Global, fails_at: u8, kind: ErrorKind) -> (bool, usize, usize) {
+// Which call of a writer fails, and how; whether six bytes are put then, how many of them are taken, and how many of these are flushed.
+type Row = (u8, ErrorKind, bool, usize, usize);
+
+const ROWS: [Row; 4] = [
+    (3, ErrorKind::Interrupted, true, 6, 6),
+    (3, ErrorKind::TimedOut, false, 2, 0),
+    (7, ErrorKind::TimedOut, false, 6, 0),
+    (9, ErrorKind::TimedOut, true, 6, 6),
+];
+
+fn is_put_so(alloc: Global, row: &Row) -> bool {
+    let (fails_at, kind, put, taken, flushed) = *row;
     let mut writer = RoughWriter {
         taken: Vec::new(alloc),
         flushed: 0,
         rough: Rough::new(fails_at, kind),
     };
     let is_put = OutSink::new(&mut writer).put(b"/ dir\n").is_ok();
-    (is_put, writer.taken.len(), writer.flushed)
+    is_put == put && writer.taken.len() == taken && writer.flushed == flushed
+}
+
+// The first row that goes otherwise, counted from 0.
+fn wrong_row(alloc: Global) -> Option<usize> {
+    for (place, row) in ROWS.iter().enumerate() {
+        if !is_put_so(alloc, row) {
+            return Some(place);
+        }
+    }
+    None
 }
 
 #[test]
 fn writers_that_fail_once(rt: HostRuntime) {
-    for (fails_at, kind, wanted) in [
-        (3, ErrorKind::Interrupted, (true, 6, 6)),
-        (3, ErrorKind::TimedOut, (false, 2, 0)),
-        (7, ErrorKind::TimedOut, (false, 6, 0)),
-        (9, ErrorKind::TimedOut, (true, 6, 6)),
-    ] {
-        assert_eq!(rt;
-            rough_put(rt.alloc(), fails_at, kind),
-            wanted,
-            "call {fails_at}"
-        );
-    }
+    assert_eq!(rt; wrong_row(rt.alloc()), None);
 }

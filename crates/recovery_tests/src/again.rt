@@ -1,11 +1,11 @@
 //! The option `again`: mounts behind a run that lose their power too.
-use crate::images::{assert_at, done, no_files, told};
+use crate::images::{no_files, read, run};
 use outside::{Files, MemFiles};
 use split_cases::rows;
-use split_tables::session_told;
+use split_tables::{answer, session_told};
 use std::alloc::Global;
 use std::test::Fail;
-use test_kit::{RowError, assert_rows};
+use test_kit::{Text, assert_rows};
 
 // Worked by hand: what a mount finds does not hang on where the one before it was cut.
 const ROWS: &str = "\
@@ -74,34 +74,36 @@ fn runs_with_again(rt: HostRuntime) -> Result<(), Fail> {
 // The place of the hole in the log among the worked runs.
 const HOLE: usize = 5;
 
-const TOLD: &[u8] =
-    b"s.0 open x /x wc = fd 0\ns.1 open y /y wc = fd 1\n1.0 write y 62 = count 1\n/ dir\n/x file 0\n/y file 1 62\n";
+const TOLD: &str =
+    "s.0 open x /x wc = fd 0\ns.1 open y /y wc = fd 1\n1.0 write y 62 = count 1\n/ dir\n/x file 0\n/y file 1 62\n";
 
-// Whether the hole in the log puts what it has to where the first mount has so many steps. The image is kept.
-fn is_hole(
-    alloc: Global,
-    files: &mut MemFiles,
-    steps: u64,
-    choice: &str,
-) -> Result<bool, RowError> {
-    let line = format!(in alloc;
-        "step g S strict order 0,0,0,1,1,1,1,1,1 cut 11 again {steps} choose {choice} keep h"
-    )?;
-    Ok(told(alloc, files, line.as_str())?.as_slice() == TOLD)
+// The run of the hole in the log, where the first mount has so many steps. The image is kept.
+fn put_hole(line: &mut Text, steps: u64, choice: &str) {
+    line.put("step g S strict order 0,0,0,1,1,1,1,1,1 cut 11 again ");
+    line.put_number(steps);
+    line.put(" choose ");
+    line.put(choice);
+    line.put(" keep h");
+}
+
+// Whether it puts what it has to.
+fn is_hole(alloc: Global, files: &mut MemFiles, steps: u64, choice: &str) -> bool {
+    let mut line = Text::new(alloc);
+    put_hole(&mut line, steps, choice);
+    answer(alloc, files, line.as_str()).is(TOLD)
 }
 
 // The script of the hole in the log, and an image.
-fn add_hole(alloc: Global, files: &mut MemFiles) -> Result<(), RowError> {
+fn add_hole(alloc: Global, files: &mut MemFiles) {
     let script = rows().get(HOLE).copied().unwrap_or("");
-    files.replace("S", script.as_bytes())?;
-    done(alloc, files, "mkfs g 64 4 16 16")
+    let _is_there = files.replace("S", script.as_bytes());
+    run(alloc, files, "mkfs g 64 4 16 16");
 }
 
-// The image that is kept has one more name.
-fn keep_whole(alloc: Global, files: &mut MemFiles) -> Result<(), RowError> {
-    let image = files.read(alloc, "h")?;
-    files.replace("whole", &image)?;
-    Ok(())
+// Whether an image is kept, which then has one more name.
+fn is_kept_whole(alloc: Global, files: &mut MemFiles) -> bool {
+    let image = read(alloc, files, "h");
+    !image.is_empty() && files.replace("whole", &image).is_ok()
 }
 
 // Whether the image that is kept is the whole one.
@@ -110,36 +112,30 @@ fn is_whole(files: &MemFiles) -> bool {
 }
 
 // With how many steps the image is the whole one, where the same is put with each number before it; 0 where it is not.
-fn first_whole(alloc: Global, files: &mut MemFiles, choice: &str) -> Result<u64, RowError> {
+fn first_whole(alloc: Global, files: &mut MemFiles, choice: &str) -> u64 {
     for steps in 0..10_000_u64 {
-        if !is_hole(alloc, files, steps, choice)? {
-            return Ok(0);
+        if !is_hole(alloc, files, steps, choice) {
+            return 0;
         }
         if is_whole(files) {
-            return Ok(steps);
+            return steps;
         }
     }
-    Ok(0)
+    0
 }
 
 // Whether the recovery ends before the power goes with some number of steps above 100, where the same is put with each number before it.
-fn ends(alloc: Global, files: &mut MemFiles, choice: &str) -> Result<bool, RowError> {
-    add_hole(alloc, files)?;
-    let _is_hole = is_hole(alloc, files, 1_000_000, choice)?;
-    keep_whole(alloc, files)?;
-    Ok(first_whole(alloc, files, choice)? > 100)
-}
-
-// Likewise over files of its own.
-fn recovery_ends(alloc: Global, choice: &str) -> Result<bool, RowError> {
+fn ends(alloc: Global, choice: &str) -> bool {
     let mut files = no_files(alloc);
-    ends(alloc, &mut files, choice)
+    add_hole(alloc, &mut files);
+    is_hole(alloc, &mut files, 1_000_000, choice)
+        && is_kept_whole(alloc, &mut files)
+        && first_whole(alloc, &mut files, choice) > 100
 }
 
 #[test]
-fn hole_in_the_log_until_recovery_ends(rt: HostRuntime) -> Result<(), Fail> {
-    assert_at(&rt, 0, recovery_ends(rt.alloc(), "oldest")?)?;
-    assert_at(&rt, 1, recovery_ends(rt.alloc(), "newest")?)?;
-    assert_at(&rt, 7, recovery_ends(rt.alloc(), "7")?)?;
-    Ok(())
+fn hole_in_the_log_until_recovery_ends(rt: HostRuntime) {
+    assert!(rt; ends(rt.alloc(), "oldest"));
+    assert!(rt; ends(rt.alloc(), "newest"));
+    assert!(rt; ends(rt.alloc(), "7"));
 }

@@ -1,10 +1,9 @@
 //! Each call on files and sink in memory that fails once.
-use crate::images::{assert_at, done, no_files, words_of};
+use crate::images::{copied, no_files, read, run};
 use outside::{Files, MemFiles, MemSink};
-use split_tables::answer_over;
-use std::alloc::{AllocError, Global};
-use std::test::Fail;
-use test_kit::RowError;
+use split_tables::put_answer_over;
+use std::alloc::Global;
+use test_kit::Text;
 
 // No call fails.
 const NONE: u64 = 9;
@@ -54,49 +53,39 @@ const ROWS: [Row; 13] = [
 ];
 
 // An image with one directory, `/d`, that is kept among files.
-fn image_in(alloc: Global, files: &mut MemFiles) -> Result<Vec<u8>, RowError> {
-    files.replace("S", b"mkdir /d\n")?;
-    done(alloc, files, "mkfs g 64 4 16 16")?;
-    done(alloc, files, "step g S strict keep g")?;
-    Ok(files.read(alloc, "g")?)
+fn image_in(alloc: Global, files: &mut MemFiles) -> Vec<u8> {
+    let _is_there = files.replace("S", b"mkdir /d\n");
+    run(alloc, files, "mkfs g 64 4 16 16");
+    run(alloc, files, "step g S strict keep g");
+    read(alloc, files, "g")
 }
 
 // An image with one directory, `/d`.
-fn image(alloc: Global) -> Result<Vec<u8>, RowError> {
+fn image(alloc: Global) -> Vec<u8> {
     let mut files = no_files(alloc);
     image_in(alloc, &mut files)
 }
 
-fn one(alloc: Global, number: u64) -> Result<Vec<u64>, AllocError> {
+fn one(alloc: Global, number: u64) -> Vec<u64> {
     let mut list = Vec::new(alloc);
-    list.push(number)?;
-    Ok(list)
+    let _is_there = list.push(number);
+    list
 }
 
-// A file with this name and these bytes.
-fn file(alloc: Global, name: &str, bytes: &[u8]) -> Result<(String, Vec<u8>), AllocError> {
-    let name = name.to_string(alloc)?;
-    Ok((name, Vec::from_slice(alloc, bytes)?))
-}
-
-// Adds the image `g`, a script `S`, and some bytes `h`.
-fn add_files(
-    alloc: Global,
-    list: &mut Vec<(String, Vec<u8>)>,
-    image: &[u8],
-) -> Result<(), AllocError> {
-    list.push(file(alloc, "g", image)?)?;
-    list.push(file(alloc, "S", b"mkdir /a\n")?)?;
-    list.push(file(alloc, "h", b"old bytes")?)?;
-    Ok(())
+// Adds a file with this name and these bytes.
+fn add_file(alloc: Global, list: &mut Vec<(String, Vec<u8>)>, name: &str, bytes: &[u8]) {
+    if let Ok(name) = name.to_string(alloc) {
+        let _is_there = list.push((name, copied(alloc, bytes)));
+    }
 }
 
 // The image `g`, a script `S`, and some bytes `h`; a call of this number fails.
-fn files_of(alloc: Global, image: &[u8], failing: u64) -> Result<MemFiles, AllocError> {
-    let failing = one(alloc, failing)?;
+fn files_of(alloc: Global, image: &[u8], failing: u64) -> MemFiles {
     let mut list = Vec::new(alloc);
-    add_files(alloc, &mut list, image)?;
-    Ok(MemFiles::new(alloc, list, failing))
+    add_file(alloc, &mut list, "g", image);
+    add_file(alloc, &mut list, "S", b"mkdir /a\n");
+    add_file(alloc, &mut list, "h", b"old bytes");
+    MemFiles::new(alloc, list, one(alloc, failing))
 }
 
 // Whether just the file of this name, or none, is another than it was.
@@ -108,56 +97,37 @@ fn are_as_told(files: &MemFiles, image: &[u8], changed: &str) -> bool {
     kept && (g == image) == (changed != "g") && (h == b"old bytes".as_slice()) == (changed != "h")
 }
 
-// What a command puts over these files and this sink.
-fn put_by(
-    alloc: Global,
-    files: &mut MemFiles,
-    out: &mut MemSink,
-    command: &str,
-) -> Result<Vec<u8>, RowError> {
-    let words = words_of(alloc, command)?;
-    Ok(answer_over(alloc, files, out, &words)?)
+// Adds what a command puts over these files and a sink of which this call fails.
+fn put_over(text: &mut Text, alloc: Global, files: &mut MemFiles, put: u64, command: &str) {
+    let mut out = MemSink::new(alloc, one(alloc, put));
+    put_answer_over(text, alloc, files, &mut out, command);
 }
 
-// What a command puts over these files and a sink of which this call fails.
-fn put_over(
-    alloc: Global,
-    files: &mut MemFiles,
-    put: u64,
-    command: &str,
-) -> Result<Vec<u8>, RowError> {
-    let mut out = MemSink::new(alloc, one(alloc, put)?);
-    put_by(alloc, files, &mut out, command)
-}
-
-fn is_as_told(alloc: Global, image: &[u8], row: &Row) -> Result<bool, RowError> {
+fn is_as_told(alloc: Global, image: &[u8], row: &Row) -> bool {
     let (command, file_call, put, text, changed) = *row;
-    let mut files = files_of(alloc, image, file_call)?;
-    let told = put_over(alloc, &mut files, put, command)?;
-    Ok(told.as_slice() == text.as_bytes() && are_as_told(&files, image, changed))
+    let mut files = files_of(alloc, image, file_call);
+    let mut told = Text::new(alloc);
+    put_over(&mut told, alloc, &mut files, put, command);
+    told.is(text) && are_as_told(&files, image, changed)
 }
 
-// The first row that is told otherwise, if there is one, counted from 0; else how many there are.
-fn wrong_row(alloc: Global, image: &[u8]) -> Result<u64, RowError> {
-    let mut place: u64 = 0;
-    for row in &ROWS {
-        if !is_as_told(alloc, image, row)? {
-            return Ok(place);
+// The first row that is told otherwise, if there is one, counted from 0.
+fn wrong_row(alloc: Global, image: &[u8]) -> Option<usize> {
+    for (place, row) in ROWS.iter().enumerate() {
+        if !is_as_told(alloc, image, row) {
+            return Some(place);
         }
-        place = place.saturating_add(1);
     }
-    Ok(place)
+    None
 }
 
 // Likewise over an image of its own.
-fn wrong_alone(alloc: Global) -> Result<u64, RowError> {
-    let image = image(alloc)?;
+fn wrong_alone(alloc: Global) -> Option<usize> {
+    let image = image(alloc);
     wrong_row(alloc, &image)
 }
 
 #[test]
-fn each_call_fails_once(rt: HostRuntime) -> Result<(), Fail> {
-    let wrong = wrong_alone(rt.alloc())?;
-    assert_at(&rt, wrong, wrong == 13)?;
-    Ok(())
+fn each_call_fails_once(rt: HostRuntime) {
+    assert_eq!(rt; wrong_alone(rt.alloc()), None);
 }

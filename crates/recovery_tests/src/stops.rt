@@ -2,17 +2,15 @@
 ghost use Rattle.std.specs.Prelude.{◌≢◌};
 ghost use Rattle.posix_spec.specs.posix_types.declared.call.Mode.{Mode};
 
-use crate::images::{CHOICES, assert_at, fresh};
-use command_line::{Options, Status, plain_options};
+use crate::images::{CHOICES, copied, fresh};
+use command_line::{Options, plain_options};
 use crash_judge::judge;
 use image_layout::Geometry;
 use pm_lines::Choice;
 use posix_spec::{Mode, Shape, Tree, root_alone};
 use split_cases::rows;
 use split_tables::{Case, Ran, Stops, run_image};
-use std::alloc::{AllocError, Global};
-use std::test::Fail;
-use test_kit::RowError;
+use std::alloc::Global;
 
 const SMALL: &str = "64 4 16 16";
 
@@ -57,11 +55,10 @@ thread
 pwrite y 3000 64*2090
 ";
 
-fn shape() -> Result<Shape, RowError> {
-    match Geometry::checked(64, 4, 16, 16) {
-        Some(geometry) => Ok(geometry.shape()),
-        None => Err(RowError::Misspelled),
-    }
+// The shape of the image.
+fn shape() -> Option<Shape> {
+    let geometry = Geometry::checked(64, 4, 16, 16)?;
+    Some(geometry.shape())
 }
 
 // The mode that a word of these rows names.
@@ -83,48 +80,36 @@ fn ran(
     script: &str,
     steps: u64,
     choice: Choice,
-) -> Result<Ran, RowError> {
+) -> Option<Ran> {
     let options = Options {
         stop: Some(steps),
         choice,
         ..plain_options(mode_of(mode))
     };
-    match run_image(
-        alloc,
-        Vec::from_slice(alloc, image)?,
-        script.as_bytes(),
-        &options,
-    ) {
-        Ok(ran) => Ok(ran),
-        Err(Status::NoMemory) => Err(RowError::NoMemory(AllocError)),
-        Err(_) => Err(RowError::NotRun),
-    }
+    run_image(alloc, copied(alloc, image), script.as_bytes(), &options).ok()
 }
 
 // Whether the mode permits what is left behind a tree to begin with.
-fn is_permitted(
-    alloc: Global,
-    mode: &str,
-    shape: Shape,
-    start: &Tree,
-    ran: &Ran,
-) -> Result<bool, RowError> {
-    Ok(judge(
+fn is_permitted(alloc: Global, mode: &str, shape: Shape, start: &Tree, ran: &Ran) -> bool {
+    let (history, unfinished) = (&ran.history, &ran.unfinished);
+    judge(
         alloc,
         mode_of(mode),
         shape,
         start,
-        &ran.history,
-        &ran.unfinished,
+        history,
+        unfinished,
         &ran.tree,
-    )?)
+    )
+    .unwrap_or(false)
 }
 
 // Whether the mode permits what is left.
-fn is_judged(alloc: Global, mode: &str, ran: &Ran) -> Result<bool, RowError> {
-    let shape = shape()?;
-    let start = root_alone(alloc)?;
-    is_permitted(alloc, mode, shape, &start, ran)
+fn is_judged(alloc: Global, mode: &str, ran: &Ran) -> bool {
+    match (shape(), root_alone(alloc)) {
+        (Some(shape), Ok(start)) => is_permitted(alloc, mode, shape, &start, ran),
+        _ => false,
+    }
 }
 
 // How many calls are unfinished where the power goes after so many steps; none where something is left that the mode forbids.
@@ -135,31 +120,18 @@ fn unfinished_at(
     script: &str,
     steps: u64,
     choice: Choice,
-) -> Result<Option<usize>, RowError> {
+) -> Option<usize> {
     let ran = ran(alloc, mode, image, script, steps, choice)?;
-    Ok(if is_judged(alloc, mode, &ran)? {
-        Some(ran.unfinished.len())
-    } else {
-        None
-    })
+    is_judged(alloc, mode, &ran).then_some(ran.unfinished.len())
 }
 
 // How many they are at most, with each choice.
-fn most_at(
-    alloc: Global,
-    mode: &str,
-    image: &[u8],
-    script: &str,
-    steps: u64,
-) -> Result<Option<usize>, RowError> {
+fn most_at(alloc: Global, mode: &str, image: &[u8], script: &str, steps: u64) -> Option<usize> {
     let mut most: usize = 0;
-    for choice in CHOICES {
-        match unfinished_at(alloc, mode, image, script, steps, choice)? {
-            Some(count) => most = most.max(count),
-            None => return Ok(None),
-        }
+    for choice in &CHOICES {
+        most = most.max(unfinished_at(alloc, mode, image, script, steps, *choice)?);
     }
-    Ok(Some(most))
+    Some(most)
 }
 
 // How many they are at most, at one of the losses until the last one.
@@ -170,67 +142,78 @@ fn most_until(
     script: &str,
     every: u64,
     last: u64,
-) -> Result<Option<usize>, RowError> {
+) -> Option<usize> {
     let mut most: usize = 0;
     let mut steps: u64 = 0;
     for _ in 0..100_000_u64 {
         if steps > last {
-            return Ok(Some(most));
+            return Some(most);
         }
-        match most_at(alloc, mode, image, script, steps)? {
-            Some(count) => most = most.max(count),
-            None => return Ok(None),
-        }
+        most = most.max(most_at(alloc, mode, image, script, steps)?);
         steps = steps.saturating_add(every);
     }
-    Err(RowError::NotRun)
+    None
 }
 
 // The last loss of a script, which is at the end of the unmount.
-fn last_stop(alloc: Global, mode: &str, script: &str, every: u64) -> Result<u64, RowError> {
-    let case = Case::new(alloc, mode, SMALL, script)?;
-    Ok(Stops::of_all(alloc, &case, 0, every)?.last)
+fn last_stop(alloc: Global, mode: &str, script: &str, every: u64) -> Option<u64> {
+    let case = Case::new(alloc, mode, SMALL, script).ok()?;
+    let stops = Stops::of_all(alloc, &case, 0, every)?;
+    Some(stops.last)
 }
 
-// Whether each of the losses of a script leaves what the mode permits, and one of them so many calls unfinished.
-fn is_right(
+// Whether each of the losses of a script, until the last one, leaves what the mode permits, and one of them so many calls unfinished.
+fn is_right_until(
     alloc: Global,
     mode: &str,
     script: &str,
     every: u64,
+    last: u64,
     unfinished: usize,
-) -> Result<bool, RowError> {
-    let last = last_stop(alloc, mode, script, every)?;
-    let image = fresh(alloc, SMALL)?;
-    match most_until(alloc, mode, &image, script, every, last)? {
-        Some(most) => Ok(most >= unfinished),
-        None => Ok(false),
+) -> bool {
+    let image = fresh(alloc, SMALL);
+    match most_until(alloc, mode, &image, script, every, last) {
+        Some(most) => most >= unfinished,
+        None => false,
+    }
+}
+
+// Likewise of all losses of a script.
+fn is_right(alloc: Global, mode: &str, script: &str, every: u64, unfinished: usize) -> bool {
+    match last_stop(alloc, mode, script, every) {
+        Some(last) => is_right_until(alloc, mode, script, every, last, unfinished),
+        None => false,
     }
 }
 
 // Whether those of a row are right.
-fn is_row_right(alloc: Global, row: &Row) -> Result<bool, RowError> {
+fn is_row_right(alloc: Global, row: &Row) -> bool {
     let (mode, place, every, unfinished) = *row;
     let script = rows().get(place).copied().unwrap_or("");
     is_right(alloc, mode, script, every, unfinished)
 }
 
-#[test]
-fn losses_with_the_calls_of_the_machine(rt: HostRuntime) -> Result<(), Fail> {
-    for row in &ROWS {
-        assert_at(&rt, row.1 as u64, is_row_right(rt.alloc(), row)?)?;
+// The place of the first row whose losses are not right.
+fn wrong_row(alloc: Global) -> Option<usize> {
+    for (place, row) in ROWS.iter().enumerate() {
+        if !is_row_right(alloc, row) {
+            return Some(place);
+        }
     }
-    Ok(())
+    None
 }
 
 #[test]
-fn losses_while_a_file_is_busy(rt: HostRuntime) -> Result<(), Fail> {
-    assert_at(&rt, 1, is_right(rt.alloc(), "strict", TWO_WRITES, 13, 1)?)?;
-    Ok(())
+fn losses_with_the_calls_of_the_machine(rt: HostRuntime) {
+    assert_eq!(rt; wrong_row(rt.alloc()), None);
 }
 
 #[test]
-fn losses_while_two_writes_finish_in_place(rt: HostRuntime) -> Result<(), Fail> {
-    assert_at(&rt, 2, is_right(rt.alloc(), "sync", TWO_FRONTS, 31, 2)?)?;
-    Ok(())
+fn losses_while_a_file_is_busy(rt: HostRuntime) {
+    assert!(rt; is_right(rt.alloc(), "strict", TWO_WRITES, 13, 1));
+}
+
+#[test]
+fn losses_while_two_writes_finish_in_place(rt: HostRuntime) {
+    assert!(rt; is_right(rt.alloc(), "sync", TWO_FRONTS, 31, 2));
 }

@@ -1,5 +1,5 @@
 -- From one moment to the next, once the World was told that the power went.
-use Rattle.std.specs.Prelude.{◌≡◌, ◌≢◌, ◌⊎◌, ◌≤◌, ◌<◌, ◌+◌, ◌++◌, ◌∷◌, ℕ, zero, suc, Bool, true, false, List, [], length, Option, Some, None, Result, Ok, Err, IfOk, IsSome, slice_get, refl}
+use Rattle.std.specs.Prelude.{◌≡◌, ◌≢◌, ◌⊎◌, ◌≤◌, ◌<◌, ◌+◌, ◌++◌, ◌∷◌, ℕ, zero, suc, Bool, true, false, List, [], length, map, Option, Some, None, Result, Ok, Err, IfOk, IsSome, slice_get, refl}
 use Rattle.std.specs.List.{remove}
 use Rattle.std.proofs.Common.{arith, ap, ◌∙◌, sym, subst, inl, inr}
 use Rattle.std.proofs.lemmas.Bool.{cases_eq}
@@ -9,6 +9,7 @@ use Rattle.run_laws.specs.image_model.LogRule.{HoldsEntry}
 use Rattle.run_laws.specs.oplog_entry.declared.claims.Full.{Full}
 use Rattle.run_laws.specs.oplog_entry.LogLines.{line_at}
 use Rattle.run_laws.specs.pm_model.Powers.{Supply}
+use Rattle.run_laws.specs.list_laws.Filters.{In-map}
 use Rattle.run_laws.specs.list_laws.Members.{In}
 use Rattle.run_laws.specs.live_model.Standing.{JobOut}
 use Rattle.run_laws.specs.round_log.Rounds.{IsClaimed, RoundView}
@@ -21,9 +22,9 @@ use Rattle.run_laws.specs.world_view_laws.Views.{WorldView}
 use Rattle.posix_types.specs.declared.call.Who.{Who}
 use Rattle.event_laws.specs.declared.held.Held.{Held}
 use Rattle.event_laws.specs.declared.held.Work.{Work}
-use Rattle.event_laws.specs.Between.{Between, CanCrash, lines_in}
+use Rattle.event_laws.specs.Between.{Between, CanCrash}
 use Rattle.event_laws.specs.EventsLaws.{held, IsHeldAt, with_log, without_job}
-use Rattle.event_laws.specs.Held.{filled_of, HasLog, IsLogOf, IsWorkOut, jobs_of, OutView}
+use Rattle.event_laws.specs.Held.{filled_of, HasLog, IsLogOf, IsWorkOut, jobs_of, lines_in, OutView}
 use Rattle.event_laws.proofs.Crashes.{AreOut, log_left, may_crash, work_out}
 use Rattle.event_laws.proofs.Few.{without_place}
 use Rattle.event_laws.proofs.Lines.{log_finished, log_later, log_without, slot_below}
@@ -92,19 +93,23 @@ module _ (w : WorldView) (out : OutView) (b : Between w out) (some : IsSome out.
 
 -- ---- a crash may come
 
-are_out : (w : WorldView) (jobs : List Held) → AreStillHeld w jobs → AreOut w jobs
+-- the callers of the jobs of the World
+abbrev callers_in : WorldView → List Who
+callers_in w = map (λ (p : JobOut). p.who) w.pending
+
+are_out : (w : WorldView) (jobs : List Held) → AreStillHeld w jobs → AreOut w (callers_in w) jobs
 are_out w jobs is = record {
   place = is.place;
   apart = is.apart;
   each = λ i h at. (let one = is.each i h at in (one.0, one.1, one.2, work_out w one.0 h.work one.3));
-  all = λ p there. elim (is.all p there) [ inl home ↦ inl home | inr one ↦ inr (one.0, one.1, work_out w p one.0.work one.2) ];
+  all = λ p there. elim (is.all p there) [ inl home ↦ inl (In-map (λ (q : JobOut). q.who) w.pending p there, home) | inr one ↦ inr (one.0, one.1, work_out w p one.0.work one.2) ];
 }
 
 pub can_crash : (w : WorldView) (out : OutView) → IsAfterLoss w out → CanCrash w out
 can_crash w out a = record {
   usable = a.usable;
   crash = subst (λ (o : Option RoundView). MayCrash w (lines_in o) (jobs_of out.jobs) (filled_of out.jobs)) (sym a.log_is)
-      (may_crash w (Some a.log) out.jobs (are_out w out.jobs a.jobs) a.callers a.drafts (log_left w a.log out.jobs a.log_of));
+      (may_crash w (callers_in w) (Some a.log) out.jobs (are_out w out.jobs a.jobs) a.callers a.drafts (log_left w a.log out.jobs a.log_of));
   open_calls = open_calls w a.none_unfinished a.next a.callers;
 }
 

@@ -1,7 +1,7 @@
 //! Two and three calls in flight, with a loss after each step. All rows are worked by hand.
-use split_tables::losses_told;
+use crate::asserting::assert_losses;
 use std::test::Fail;
-use test_kit::assert_rows;
+use test_kit::Text;
 
 // In turn: each thread begins, then each fills, and so on. The set-up takes 48 steps a file.
 const TWO_WRITES: &str = "\
@@ -125,9 +125,11 @@ tree = / dir; /x file 5090 61*3700+62*1390; /y file 1 63; /z file 5000 64*4090+6
 
 // Asserts that a row goes `ok` with these losses, the last of its options.
 fn assert_part(rt: &HostRuntime, losses: &str, row: &str) -> Result<(), Fail> {
-    let row = format!(in rt.alloc(); "{row}{losses}\n")?;
-    assert_rows(rt, row.as_str(), 1, &losses_told)?;
-    Ok(())
+    let mut text = Text::new(rt.alloc());
+    text.put(row);
+    text.put(losses);
+    text.put("\n");
+    assert_losses(rt, text.as_str(), 1)
 }
 
 // Of each step some tests have a part: every second, every third.
@@ -158,18 +160,15 @@ fn three_writes_at_the_last_third(rt: HostRuntime) -> Result<(), Fail> {
 
 #[test]
 fn names_change_beside_writes(rt: HostRuntime) -> Result<(), Fail> {
-    assert_rows(&rt, BESIDE, 2, &losses_told)?;
-    Ok(())
+    assert_losses(&rt, BESIDE, 2)
 }
 
 #[test]
 fn fronts_are_written_beside_writes(rt: HostRuntime) -> Result<(), Fail> {
-    assert_rows(&rt, FRONTS, 2, &losses_told)?;
-    Ok(())
+    assert_losses(&rt, FRONTS, 2)
 }
 
 #[test]
 fn two_threads_append_to_one_file(rt: HostRuntime) -> Result<(), Fail> {
-    assert_rows(&rt, APPENDS, 1, &losses_told)?;
-    Ok(())
+    assert_losses(&rt, APPENDS, 1)
 }

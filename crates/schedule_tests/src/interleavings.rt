@@ -2,11 +2,9 @@
 //!
 //! A write takes six events: Begin, Fill, Claim, Store, Persist, Finish. Behind Persist it is on the medium, and behind Store
 //! where the medium has all words of its entry: with `newest`, and not where it has those of even or of odd numbers alone.
-use crate::telling::{assert_none, otherwise};
 use split_tables::{CHOICES, Case, left_by_cut};
-use std::alloc::{AllocError, Global};
-use std::test::Fail;
-use test_kit::{RowError, number, word};
+use std::alloc::Global;
+use test_kit::{Text, number, word};
 
 const IMAGE: &str = "64 4 16 16";
 
@@ -70,13 +68,11 @@ fn word_at(bits: u32, place: u32) -> &'static str {
     }
 }
 
-// The words of an order of events.
-fn words_of_events(alloc: Global, bits: u32) -> Result<String, AllocError> {
-    let mut words = String::new(alloc);
+// Adds the words of an order of events.
+fn put_events(words: &mut Text, bits: u32) {
     for place in 0..BOTH {
-        words.push_str(word_at(bits, place))?;
+        words.put(word_at(bits, place));
     }
-    Ok(words)
 }
 
 // How many of the first events are those of thread 1.
@@ -138,13 +134,13 @@ fn word_of_turn(is_first: bool, turn: char) -> &'static str {
     }
 }
 
-// The words of an order of writes.
-fn words_of_writes(alloc: Global, turns: &str) -> Result<String, AllocError> {
-    let mut words = String::new(alloc);
+// Adds the words of an order of writes.
+fn put_writes(words: &mut Text, turns: &str) {
+    let mut is_first = true;
     for turn in turns.chars() {
-        words.push_str(word_of_turn(words.is_empty(), turn))?;
+        words.put(word_of_turn(is_first, turn));
+        is_first = false;
     }
-    Ok(words)
 }
 
 // What a write of a thread appends.
@@ -197,13 +193,20 @@ fn are_writes_shown(turns: &str, events: u32, choice: &str, returned: usize, tre
 // ---- each order
 
 impl Order {
-    // The script with the words of the order.
-    fn case(self, alloc: Global) -> Result<Case, RowError> {
-        let (script, words) = match self {
-            Order::Events(bits) => (TWO_FILES, words_of_events(alloc, bits)?),
-            Order::Writes(turns) => (ONE_FILE, words_of_writes(alloc, turns)?),
-        };
-        Case::ordered(alloc, "strict", IMAGE, script, words.as_str())
+    // The script.
+    fn script(self) -> &'static str {
+        match self {
+            Order::Events(_) => TWO_FILES,
+            Order::Writes(_) => ONE_FILE,
+        }
+    }
+
+    // Adds the words of the order.
+    fn put(self, words: &mut Text) {
+        match self {
+            Order::Events(bits) => put_events(words, bits),
+            Order::Writes(turns) => put_writes(words, turns),
+        }
     }
 
     // How many events the threads have.
@@ -231,98 +234,98 @@ impl Order {
     }
 
     // Whether what it leaves that is cut behind so many events is right.
-    fn is_left(
-        self,
-        alloc: Global,
-        case: &Case,
-        events: u32,
-        choice: &str,
-    ) -> Result<bool, RowError> {
+    fn is_left(self, alloc: Global, case: &Case, events: u32, choice: &str) -> bool {
         // The set-up has two events.
         let cut = u64::from(events).saturating_add(2);
-        match left_by_cut(alloc, case, cut, choice)? {
-            Some((returned, tree)) => Ok(self.is_shown(events, choice, returned, tree.as_str())),
-            None => Ok(false),
+        match left_by_cut(alloc, case, cut, choice) {
+            Some((returned, tree)) => self.is_shown(events, choice, returned, tree.as_str()),
+            None => false,
         }
     }
 
     // Likewise with each choice.
-    fn is_left_with_each(self, alloc: Global, case: &Case, events: u32) -> Result<bool, RowError> {
-        for choice in CHOICES {
-            if !self.is_left(alloc, case, events, choice)? {
-                return Ok(false);
+    fn is_left_with_each(self, alloc: Global, case: &Case, events: u32) -> bool {
+        for choice in &CHOICES {
+            if !self.is_left(alloc, case, events, choice) {
+                return false;
             }
         }
-        Ok(true)
+        true
     }
 
     // Whether each of its losses is right.
-    fn are_cuts_right(self, alloc: Global, case: &Case) -> Result<bool, RowError> {
+    fn are_cuts_right(self, alloc: Global, case: &Case) -> bool {
         for events in 0..self.events().saturating_add(1) {
-            if self.is_cut(events) && !self.is_left_with_each(alloc, case, events)? {
-                return Ok(false);
+            if self.is_cut(events) && !self.is_left_with_each(alloc, case, events) {
+                return false;
             }
         }
-        Ok(true)
+        true
     }
 
-    // Whether its run and its losses are right.
-    fn is_case_right(self, alloc: Global, case: &Case) -> Result<bool, RowError> {
-        Ok(case.runs_as_told(alloc)? && self.are_cuts_right(alloc, case)?)
+    // Whether it goes right with these words.
+    fn is_right_by(self, alloc: Global, words: &Text) -> bool {
+        match Case::ordered(alloc, "strict", IMAGE, self.script(), words.as_str()) {
+            Ok(case) => {
+                words.is_whole() && case.runs_as_told(alloc) && self.are_cuts_right(alloc, &case)
+            }
+            Err(_) => false,
+        }
     }
 
     // Whether it goes right.
-    fn is_right(self, alloc: Global) -> Result<bool, RowError> {
-        let case = self.case(alloc)?;
-        self.is_case_right(alloc, &case)
+    fn is_right(self, alloc: Global) -> bool {
+        let mut words = Text::new(alloc);
+        self.put(&mut words);
+        self.is_right_by(alloc, &words)
     }
 }
 
 // The first order of a part that goes wrong, if there is one; or 4,096 where the orders of all parts are not 924.
-fn wrong_order(alloc: Global, part: u32) -> Result<Option<u64>, RowError> {
+fn wrong_order(alloc: Global, part: u32) -> Option<u32> {
     let mut count: u32 = 0;
     for bits in 0..4096_u32 {
         if bits.count_ones() == EACH {
-            if count % PARTS == part && !Order::Events(bits).is_right(alloc)? {
-                return Ok(Some(u64::from(bits)));
+            if count % PARTS == part && !Order::Events(bits).is_right(alloc) {
+                return Some(bits);
             }
             count = count.saturating_add(1);
         }
     }
-    Ok(if count == 924 { None } else { Some(4096) })
-}
-
-// Asserts that a part of the 924 orders goes right.
-fn assert_orders(rt: &HostRuntime, part: u32) -> Result<(), Fail> {
-    assert_none(rt, wrong_order(rt.alloc(), part)?)
+    (count != 924).then_some(4096)
 }
 
 #[test]
-fn first_part_of_the_orders(rt: HostRuntime) -> Result<(), Fail> {
-    assert_orders(&rt, 0)
+fn first_part_of_the_orders(rt: HostRuntime) {
+    assert_eq!(rt; wrong_order(rt.alloc(), 0), None);
 }
 
 #[test]
-fn second_part_of_the_orders(rt: HostRuntime) -> Result<(), Fail> {
-    assert_orders(&rt, 1)
+fn second_part_of_the_orders(rt: HostRuntime) {
+    assert_eq!(rt; wrong_order(rt.alloc(), 1), None);
 }
 
 #[test]
-fn third_part_of_the_orders(rt: HostRuntime) -> Result<(), Fail> {
-    assert_orders(&rt, 2)
+fn third_part_of_the_orders(rt: HostRuntime) {
+    assert_eq!(rt; wrong_order(rt.alloc(), 2), None);
 }
 
 #[test]
-fn last_part_of_the_orders(rt: HostRuntime) -> Result<(), Fail> {
-    assert_orders(&rt, 3)
+fn last_part_of_the_orders(rt: HostRuntime) {
+    assert_eq!(rt; wrong_order(rt.alloc(), 3), None);
 }
 
-#[test]
-fn two_threads_append_by_two_handles(rt: HostRuntime) -> Result<(), Fail> {
-    for turns in TURNS {
-        if !Order::Writes(turns).is_right(rt.alloc())? {
-            return Err(otherwise(&rt, turns).into());
+// The first turns that go wrong.
+fn wrong_turns(alloc: Global) -> Option<&'static str> {
+    for turns in &TURNS {
+        if !Order::Writes(turns).is_right(alloc) {
+            return Some(*turns);
         }
     }
-    Ok(())
+    None
+}
+
+#[test]
+fn two_threads_append_by_two_handles(rt: HostRuntime) {
+    assert_eq!(rt; wrong_turns(rt.alloc()), None);
 }

@@ -12,6 +12,8 @@
 #![tactic(auto)]
 
 #[cfg(test)]
+mod asserting;
+#[cfg(test)]
 mod beside;
 #[cfg(test)]
 mod interleavings;
@@ -19,7 +21,5 @@ mod interleavings;
 mod many;
 #[cfg(test)]
 mod overwrites;
-#[cfg(test)]
-mod telling;
 #[cfg(test)]
 mod worlds;

@@ -1,7 +1,6 @@
 //! Scripts in sync mode, by their events and by their steps. All rows are worked by hand.
-use split_tables::session_told;
+use crate::asserting::assert_sessions;
 use std::test::Fail;
-use test_kit::assert_rows;
 
 const EVENTS: &str = "\
 # The append begins in the block of the file's old end, which is staged with it. Events: 1, 6, then Begin, Fill, Claim, Store, Persist.
@@ -87,12 +86,10 @@ step g S sync stop 2477 = 0.0 open a /f wc = fd 0; 0.1 write a 61*8192 = count 8
 
 #[test]
 fn events_of_sync_mode(rt: HostRuntime) -> Result<(), Fail> {
-    assert_rows(&rt, EVENTS, 4, &session_told)?;
-    Ok(())
+    assert_sessions(&rt, EVENTS, 4)
 }
 
 #[test]
 fn steps_of_sync_mode(rt: HostRuntime) -> Result<(), Fail> {
-    assert_rows(&rt, STEPS, 1, &session_told)?;
-    Ok(())
+    assert_sessions(&rt, STEPS, 1)
 }

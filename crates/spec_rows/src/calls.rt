@@ -1,7 +1,6 @@
 //! Sequences that were worked by hand.
-use crate::cases::told;
+use crate::cases::assert_told;
 use std::test::Fail;
-use test_kit::assert_rows;
 
 const WORKED: &str = "\
 # Histories that were worked by hand, with the trees that they leave.
@@ -519,24 +518,20 @@ tree = / dir; /a dir; /a! file 0; /a/b file 0
 
 #[test]
 fn worked_by_hand(rt: HostRuntime) -> Result<(), Fail> {
-    assert_rows(&rt, WORKED, 11, &told)?;
-    Ok(())
+    assert_told(&rt, WORKED, 11)
 }
 
 #[test]
 fn where_this_project_chooses(rt: HostRuntime) -> Result<(), Fail> {
-    assert_rows(&rt, OWN, 15, &told)?;
-    Ok(())
+    assert_told(&rt, OWN, 15)
 }
 
 #[test]
 fn room_runs_out(rt: HostRuntime) -> Result<(), Fail> {
-    assert_rows(&rt, ROOM, 10, &told)?;
-    Ok(())
+    assert_told(&rt, ROOM, 10)
 }
 
 #[test]
 fn printed_lines(rt: HostRuntime) -> Result<(), Fail> {
-    assert_rows(&rt, SPELLED, 2, &told)?;
-    Ok(())
+    assert_told(&rt, SPELLED, 2)
 }

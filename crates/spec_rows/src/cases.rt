@@ -2,9 +2,10 @@
 use crash_judge::judge;
 use posix_spec::{Call, Item, Mode, Shape, State, Tree, Who, default_shape, root_alone};
 use std::alloc::{AllocError, Global};
+use std::test::Fail;
 use test_kit::{
-    RowError, asked, caller, option, printed_call, printed_lines, read_call, read_tree,
-    shown_items, shown_tree, small_number, word,
+    RowError, Text, asked, assert_rows, caller, option, put_call, put_items, put_lines, put_tree,
+    read_call, read_tree, small_number, word,
 };
 
 // What was done on a fresh file system, the state that it led to, and what had begun.
@@ -53,125 +54,165 @@ fn case_of(alloc: Global, row: &str) -> Result<Case, RowError> {
     })
 }
 
-// Makes a call, and gives what a history prints of it.
-fn made(alloc: Global, case: &mut Case, call: &str) -> Result<String, RowError> {
-    let (who, call) = caller(call)?;
-    let call = read_call(alloc, call)?;
-    let outcome = case.state.apply(who, &call)?;
-    let place = case.history.len();
-    case.history.push(Item {
+// Does a call: its item, of this number.
+fn item_of(state: &mut State, place: u32, who: Who, call: Call) -> Result<Item, RowError> {
+    let outcome = state.apply(who, &call)?;
+    Ok(Item {
         who,
-        index: u32::try_from(place).unwrap_or(u32::MAX),
+        index: place,
         call,
         reply: outcome.reply,
         room: outcome.room,
-    })?;
-    shown_items(alloc, case.history.get(place..).unwrap_or(&[]))
+    })
+}
+
+// The number of the next call.
+fn next_place(case: &Case) -> u32 {
+    u32::try_from(case.history.len()).unwrap_or(u32::MAX)
+}
+
+// Makes a call.
+fn make(alloc: Global, case: &mut Case, call: &str) -> Result<(), RowError> {
+    let (who, call) = caller(call)?;
+    let (call, place) = (read_call(alloc, call)?, next_place(case));
+    let item = item_of(&mut case.state, place, who, call)?;
+    Ok(case.history.push(item)?)
+}
+
+// Makes a call, and adds what a history prints of it.
+fn put_made(came: &mut Text, alloc: Global, case: &mut Case, call: &str) {
+    let place = case.history.len();
+    match make(alloc, case, call) {
+        Ok(()) => put_items(came, alloc, case.history.get(place..).unwrap_or(&[])),
+        Err(fault) => came.put_fault(&fault),
+    }
 }
 
 // A call begins, and does not return.
 fn begin(alloc: Global, case: &mut Case, call: &str) -> Result<(), RowError> {
     let (who, call) = caller(call)?;
     let call = read_call(alloc, call)?;
-    case.begun.push((who, call))?;
-    Ok(())
+    Ok(case.begun.push((who, call))?)
 }
 
 // The tree of the state, taken from a copy of it, so that copies are tried too.
 fn tree_of(state: &State) -> Result<Tree, AllocError> {
     let copy = state.clone()?;
-    let tree = copy.tree();
-    drop(copy);
-    tree?.clone()
+    let tree = copy.tree()?;
+    tree.clone()
 }
 
-// What is printed of it.
-fn tree_told(alloc: Global, state: &State) -> Result<String, RowError> {
-    let tree = tree_of(state)?;
-    shown_tree(alloc, &tree)
+// Adds what is printed of it.
+fn put_state(came: &mut Text, alloc: Global, state: &State) {
+    match tree_of(state) {
+        Ok(tree) => put_tree(came, alloc, &tree),
+        Err(_) => came.fall_short(),
+    }
 }
 
 // Whether the mode permits a tree.
-fn is_permitted(alloc: Global, case: &Case, entries: &str) -> Result<bool, RowError> {
-    let left = read_tree(alloc, &printed_lines(alloc, entries)?)?;
-    let is = judge(
+fn is_left(alloc: Global, case: &Case, left: &Tree) -> Result<bool, AllocError> {
+    judge(
         alloc,
         case.mode,
         case.shape,
         &case.start,
         &case.history,
         &case.begun,
-        &left,
-    );
-    drop(left);
-    Ok(is?)
+        left,
+    )
 }
 
-// What was wanted, and what came.
-#[derive(Drop)]
-struct Answer {
-    wanted: String,
-    came: String,
+// Whether the mode permits a tree that is printed so.
+fn is_permitted(alloc: Global, case: &Case, text: &str) -> Result<bool, RowError> {
+    let left = read_tree(alloc, text)?;
+    Ok(is_left(alloc, case, &left)?)
 }
 
-fn verdict(alloc: Global, case: &Case, entries: &str, wanted: bool) -> Result<Answer, RowError> {
-    let came = is_permitted(alloc, case, entries)?;
-    Ok(Answer {
-        wanted: format!(in alloc; "{wanted}")?,
-        came: format!(in alloc; "{came}")?,
-    })
+// Adds whether the mode permits a tree, by its entries.
+fn put_verdict(came: &mut Text, alloc: Global, case: &Case, entries: &str) {
+    let mut text = Text::new(alloc);
+    put_lines(&mut text, entries);
+    match is_permitted(alloc, case, text.as_str()) {
+        Ok(true) => came.put("permitted"),
+        Ok(false) => came.put("forbidden"),
+        Err(fault) => came.put_fault(&fault),
+    }
 }
 
-// Does what a line says.
-fn followed(alloc: Global, case: &mut Case, line: &str) -> Result<Option<Answer>, RowError> {
-    let Some((what, wanted)) = asked(line) else {
-        return Ok(None);
-    };
-    match what {
-        "tree" => Ok(Some(Answer {
-            wanted: printed_lines(alloc, wanted)?,
-            came: tree_told(alloc, &case.state)?,
-        })),
-        "begun" => {
-            begin(alloc, case, wanted)?;
-            Ok(None)
+// Adds why a call did not begin, if it did not.
+fn put_begun(came: &mut Text, alloc: Global, case: &mut Case, call: &str) {
+    match begin(alloc, case, call) {
+        Ok(()) => {}
+        Err(fault) => came.put_fault(&fault),
+    }
+}
+
+// Does what a line says: adds what is wanted, and what came.
+fn follow(came: &mut Text, wanted: &mut Text, alloc: Global, case: &mut Case, line: &str) {
+    match asked(line) {
+        None => {}
+        Some(("tree", entries)) => {
+            put_lines(wanted, entries);
+            put_state(came, alloc, &case.state);
         }
-        "left" => Ok(Some(verdict(alloc, case, wanted, true)?)),
-        "never" => Ok(Some(verdict(alloc, case, wanted, false)?)),
-        call => {
-            let place = u32::try_from(case.history.len()).unwrap_or(u32::MAX);
-            Ok(Some(Answer {
-                wanted: printed_call(alloc, place, line)?,
-                came: made(alloc, case, call)?,
-            }))
+        Some(("begun", call)) => put_begun(came, alloc, case, call),
+        Some(("left", entries)) => {
+            wanted.put("permitted");
+            put_verdict(came, alloc, case, entries);
+        }
+        Some(("never", entries)) => {
+            wanted.put("forbidden");
+            put_verdict(came, alloc, case, entries);
+        }
+        Some((call, _reply)) => {
+            put_call(wanted, next_place(case), line);
+            put_made(came, alloc, case, call);
         }
     }
 }
 
-// A line that is answered otherwise, with the answer that came.
-fn difference_at(alloc: Global, case: &mut Case, line: &str) -> Result<Option<String>, RowError> {
-    let Some(answer) = followed(alloc, case, line)? else {
-        return Ok(None);
-    };
-    if answer.wanted == answer.came {
-        return Ok(None);
+// Whether a line is answered as it says. If not, that is put with the answer that came.
+fn is_answered(told: &mut Text, alloc: Global, case: &mut Case, line: &str) -> bool {
+    let mut came = Text::new(alloc);
+    let mut wanted = Text::new(alloc);
+    follow(&mut came, &mut wanted, alloc, case, line);
+    if came.is_same(&wanted) {
+        return true;
     }
-    let came = answer.came.as_str();
-    Ok(Some(format!(in alloc; "{line}, and not {came}")?))
+    told.put(line);
+    told.put(", and not ");
+    told.put_text(&came);
+    false
 }
 
-// How the lines of a row go: `ok`, or the first one that is answered otherwise.
-fn told_of(alloc: Global, case: &mut Case, row: &str) -> Result<String, RowError> {
+// Adds how the lines of a row go: `ok`, or the first one that is answered otherwise.
+fn put_told(told: &mut Text, alloc: Global, case: &mut Case, row: &str) {
     for line in row.lines() {
-        if let Some(difference) = difference_at(alloc, case, line)? {
-            return Ok(difference);
+        if !is_answered(told, alloc, case, line) {
+            return;
         }
     }
-    Ok("ok".to_string(alloc)?)
+    told.put("ok");
 }
 
-// The same on a fresh file system.
-pub(crate) fn told(alloc: Global, row: &str) -> Result<String, RowError> {
-    let mut case = case_of(alloc, row)?;
-    told_of(alloc, &mut case, row)
+// Likewise on a fresh file system.
+fn put_row(told: &mut Text, alloc: Global, row: &str) {
+    match case_of(alloc, row) {
+        Ok(mut case) => put_told(told, alloc, &mut case, row),
+        Err(fault) => told.put_fault(&fault),
+    }
+}
+
+// How a row goes.
+fn told(alloc: Global, row: &str) -> Result<String, RowError> {
+    let mut told = Text::new(alloc);
+    put_row(&mut told, alloc, row);
+    told.end()
+}
+
+// Asserts that a table has so many rows, and that each goes `ok`.
+pub(crate) fn assert_told(rt: &HostRuntime, table: &str, count: usize) -> Result<(), Fail> {
+    assert_rows(rt, table, count, &told)?;
+    Ok(())
 }

@@ -1,7 +1,6 @@
 //! Sequences that Linux answered.
-use crate::cases::told;
+use crate::cases::assert_told;
 use std::test::Fail;
-use test_kit::assert_rows;
 
 const LINUX: &str = "\
 # One hundred sequences that Linux 6.18 answered: each was run in a fresh directory of an ext4 file
@@ -563,6 +562,5 @@ stat /f = file 0
 
 #[test]
 fn answered_by_linux(rt: HostRuntime) -> Result<(), Fail> {
-    assert_rows(&rt, LINUX, 100, &told)?;
-    Ok(())
+    assert_told(&rt, LINUX, 100)
 }

@@ -1,7 +1,6 @@
 //! What a power loss may leave in each mode.
-use crate::cases::told;
+use crate::cases::assert_told;
 use std::test::Fail;
-use test_kit::assert_rows;
 
 const MODES: &str = "\
 # What returned is there.
@@ -274,12 +273,10 @@ never = / dir
 
 #[test]
 fn permitted_and_forbidden_trees(rt: HostRuntime) -> Result<(), Fail> {
-    assert_rows(&rt, MODES, 16, &told)?;
-    Ok(())
+    assert_told(&rt, MODES, 16)
 }
 
 #[test]
 fn all_trees_of_small_files(rt: HostRuntime) -> Result<(), Fail> {
-    assert_rows(&rt, SMALL, 4, &told)?;
-    Ok(())
+    assert_told(&rt, SMALL, 4)
 }

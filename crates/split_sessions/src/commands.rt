@@ -10,6 +10,7 @@ use command_line::{Status, status_text};
 use outside::{MemFiles, MemSink};
 use split_top::top;
 use std::alloc::{AllocError, Global};
+use test_kit::Text;
 
 /// Does the job that the words of a command line say, over these files, and puts what is to be told into the sink.
 pub fn command(alloc: Global, words: &[String], files: &mut MemFiles, out: &mut MemSink) -> Status
@@ -32,52 +33,66 @@ pub fn command(alloc: Global, words: &[String], files: &mut MemFiles, out: &mut 
     top(&(), alloc, words, files, out)
 }
 
-/// The words of a command line.
-pub fn words_of(alloc: Global, words: &[&str]) -> Result<Vec<String>, AllocError> {
-    let mut list = Vec::new(alloc);
-    for word in words {
+// Adds the words of a command line.
+fn add_words(list: &mut Vec<String>, alloc: Global, line: &str) -> Result<(), AllocError> {
+    for word in line.split(' ') {
         list.push(word.to_string(alloc)?)?;
     }
-    Ok(list)
+    Ok(())
 }
 
-// The bytes of one slice, and then those of another.
-fn joined(alloc: Global, front: &[u8], back: &[u8]) -> Result<Vec<u8>, AllocError> {
-    let mut bytes = Vec::from_slice(alloc, front)?;
-    bytes.extend_from_slice(back)?;
-    Ok(bytes)
+// The words of a command line, which are parted by blanks; none where memory is wanting.
+fn words_of(alloc: Global, line: &str) -> Vec<String> {
+    let mut words = Vec::new(alloc);
+    if add_words(&mut words, alloc, line).is_err() {
+        words.clear();
+    }
+    words
 }
 
-// These bytes, and then the text of a status.
-fn with_status(alloc: Global, put: &[u8], status: &Status) -> Result<Vec<u8>, AllocError> {
-    let text = status_text(alloc, status)?;
-    joined(alloc, put, &text)
+// Adds these bytes, and then the text of a status.
+fn put_status(text: &mut Text, alloc: Global, put: &[u8], status: &Status) {
+    text.put_bytes(put);
+    match status_text(alloc, status) {
+        Ok(bytes) => text.put_bytes(&bytes),
+        Err(_) => text.fall_short(),
+    }
 }
 
-// What a command puts over these files and this sink, and then the text of its status.
-fn told(
+/// Adds what the command of a line puts over these files and this sink, and then the text of its status.
+pub fn put_answer_over(
+    text: &mut Text,
     alloc: Global,
     files: &mut MemFiles,
     out: &mut MemSink,
-    words: &[String],
-) -> Result<Vec<u8>, AllocError> {
-    let status = command(alloc, words, files, out);
-    with_status(alloc, out.bytes(), &status)
+    line: &str,
+) {
+    let words = words_of(alloc, line);
+    let status = command(alloc, &words, files, out);
+    put_status(text, alloc, out.bytes(), &status);
 }
 
-/// What a command puts over these files and this sink, and then the text of its status.
-pub fn answer_over(
-    alloc: Global,
-    files: &mut MemFiles,
-    out: &mut MemSink,
-    words: &[&str],
-) -> Result<Vec<u8>, AllocError> {
-    let list = words_of(alloc, words)?;
-    told(alloc, files, out, &list)
-}
-
-/// What a command puts over these files, and then the text of its status.
-pub fn answer(alloc: Global, files: &mut MemFiles, words: &[&str]) -> Result<Vec<u8>, AllocError> {
+/// What the command of a line puts over these files, and then the text of its status.
+pub fn answer(alloc: Global, files: &mut MemFiles, line: &str) -> Text {
     let mut out = MemSink::new(alloc, Vec::new(alloc));
-    answer_over(alloc, files, &mut out, words)
+    let mut text = Text::new(alloc);
+    put_answer_over(&mut text, alloc, files, &mut out, line);
+    text
+}
+
+// Adds what the command of a line puts over these files and this sink. Where it is not done the text is not whole.
+fn put_done(text: &mut Text, alloc: Global, files: &mut MemFiles, out: &mut MemSink, line: &str) {
+    let words = words_of(alloc, line);
+    match command(alloc, &words, files, out) {
+        Status::Done => text.put_bytes(out.bytes()),
+        _ => text.misspell(),
+    }
+}
+
+/// What the command of a line puts over these files. Where it is not done the text is not whole.
+pub fn done(alloc: Global, files: &mut MemFiles, line: &str) -> Text {
+    let mut out = MemSink::new(alloc, Vec::new(alloc));
+    let mut text = Text::new(alloc);
+    put_done(&mut text, alloc, files, &mut out, line);
+    text
 }

@@ -133,17 +133,20 @@ fn script(files: &mut MemFiles, name: &str, place: &str) -> Result<(), RowError>
     Ok(())
 }
 
-// Carries out an edit, if the line is one: `copy FROM TO`, `cut NAME LENGTH`, `set NAME PLACE BYTE ..`, `fill NAME PLACE COUNT BYTE`,
+// Carries out an edit: `copy FROM TO`, `cut NAME LENGTH`, `set NAME PLACE BYTE ..`, `fill NAME PLACE COUNT BYTE`,
 // `entry NAME PLACE NUMBER ..`, `script NAME K`, `file NAME LINE`.
-pub(crate) fn was_edit(alloc: Global, files: &mut MemFiles, line: &str) -> Result<bool, RowError> {
+fn edit(alloc: Global, files: &mut MemFiles, line: &str) -> Result<(), RowError> {
     let (edit, words) = line.split_once(' ').unwrap_or((line, ""));
     let (name, more) = words.split_once(' ').unwrap_or((words, ""));
     match edit {
-        "file" => file(alloc, files, words)?,
-        "copy" => copy(alloc, files, name, more)?,
-        "script" => script(files, name, more)?,
-        "cut" | "set" | "fill" | "entry" => change(alloc, files, edit, name, more)?,
-        _ => return Ok(false),
+        "file" => file(alloc, files, words),
+        "copy" => copy(alloc, files, name, more),
+        "script" => script(files, name, more),
+        _ => change(alloc, files, edit, name, more),
     }
-    Ok(true)
+}
+
+// Whether the line is an edit, which is carried out.
+pub(crate) fn was_edit(alloc: Global, files: &mut MemFiles, line: &str) -> bool {
+    edit(alloc, files, line).is_ok()
 }

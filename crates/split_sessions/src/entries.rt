@@ -9,8 +9,8 @@ fn fnv_of(bytes: &[u8]) -> u32 {
     hash
 }
 
-// A number of so many bytes from a place on, little endian, as far as there are such places.
-pub(crate) fn put_number(bytes: &mut [u8], place: usize, width: usize, number: u64) {
+/// Puts a number of so many bytes from a place on, little endian, as far as there are such places.
+pub fn put_number(bytes: &mut [u8], place: usize, width: usize, number: u64) {
     let mut rest = number;
     for at in place..place.saturating_add(width) {
         if at < bytes.len() {
@@ -35,8 +35,8 @@ const FIELDS: [(usize, usize); 10] = [
     (48, 8),
 ];
 
-// The line at this place is an entry with these numbers, of kind 1 and version 1, and its check.
-pub(crate) fn put_entry(bytes: &mut [u8], place: usize, numbers: &[u64; 10]) {
+/// Makes the line at this place an entry with these numbers, of kind 1 and version 1, and its check.
+pub fn put_entry(bytes: &mut [u8], place: usize, numbers: &[u64; 10]) {
     let mut line = [0_u8; 64];
     line[4] = 1;
     line[5] = 1;

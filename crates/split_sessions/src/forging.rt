@@ -6,9 +6,9 @@
 use crate::commands::answer;
 use crate::entries::{put_entry, put_number};
 use outside::{Files, MemFiles};
-use posix_spec::{Data, Name, Path, TreeEntry, TreeNode, root_alone};
+use posix_spec::{Data, Name, Path, Tree, TreeEntry, TreeNode, root_alone};
 use std::alloc::{AllocError, Global};
-use test_kit::{Draws, RowError, number, shown_tree, word};
+use test_kit::{Draws, Text, number, put_tree, word};
 
 const INODES: usize = 20_480;
 
@@ -278,36 +278,33 @@ fn add_found(
     Ok(())
 }
 
-// The text of the tree that is to be found.
-fn tree_of(alloc: Global, forged: &Forged) -> Result<String, RowError> {
+// The tree that is to be found.
+fn tree_of(alloc: Global, forged: &Forged) -> Result<Tree, AllocError> {
     let mut tree = root_alone(alloc)?;
     add_found(alloc, &mut tree.entries, forged)?;
-    shown_tree(alloc, &tree)
+    Ok(tree)
 }
 
-// Whether an image shows a tree.
-fn shows(alloc: Global, files: &mut MemFiles, name: &str, tree: &str) -> Result<bool, RowError> {
-    Ok(answer(alloc, files, &["tree", name])?.as_slice() == tree.as_bytes())
+// Adds its text.
+fn put_found(text: &mut Text, alloc: Global, forged: &Forged) {
+    match tree_of(alloc, forged) {
+        Ok(tree) => put_tree(text, alloc, &tree),
+        Err(_) => text.fall_short(),
+    }
 }
 
-// A run of nothing on the image, of which the image is kept.
-fn mount(alloc: Global, files: &mut MemFiles) -> Result<(), RowError> {
-    let words = ["step", "forged", "stat", "strict", "keep", "mounted"];
-    let _ran = answer(alloc, files, &words)?;
-    Ok(())
-}
-
-// Whether the image shows the tree, and shows it again after a run of nothing.
-fn is_shown(alloc: Global, files: &mut MemFiles, tree: &str) -> Result<bool, RowError> {
-    mount(alloc, files)?;
-    Ok(shows(alloc, files, "forged", tree)? && shows(alloc, files, "mounted", tree)?)
+// Whether the image shows a tree, and shows it again after a run of nothing, of which the image is kept.
+fn is_shown(alloc: Global, files: &mut MemFiles, tree: &Text) -> bool {
+    let _ran = answer(alloc, files, "step forged stat strict keep mounted");
+    answer(alloc, files, "tree forged").is_same(tree)
+        && answer(alloc, files, "tree mounted").is_same(tree)
 }
 
 // Whether a forged image shows what is to be found in it.
-fn is_kept(alloc: Global, files: &mut MemFiles, forged: &Forged) -> Result<bool, RowError> {
-    files.replace("forged", &forged.bytes)?;
-    let tree = tree_of(alloc, forged)?;
-    is_shown(alloc, files, tree.as_str())
+fn is_kept(alloc: Global, files: &mut MemFiles, forged: &Forged) -> bool {
+    let mut tree = Text::new(alloc);
+    put_found(&mut tree, alloc, forged);
+    files.replace("forged", &forged.bytes).is_ok() && is_shown(alloc, files, &tree)
 }
 
 // How many live entries forged images have, and how many of them show what is to be found in them.
@@ -318,54 +315,49 @@ struct Counts {
 }
 
 // One more image is forged, and counted.
-fn count_one(
-    alloc: Global,
-    files: &mut MemFiles,
-    draws: &mut Draws,
-    counts: &mut Counts,
-) -> Result<(), RowError> {
-    let forged = forge(files.read(alloc, "fresh")?, draws);
+fn count_one(alloc: Global, files: &mut MemFiles, draws: &mut Draws, counts: &mut Counts) {
+    let fresh = files.read(alloc, "fresh").unwrap_or(Vec::new(alloc));
+    let forged = forge(fresh, draws);
     counts.live = counts.live.saturating_add(forged.live);
-    if is_kept(alloc, files, &forged)? {
+    if is_kept(alloc, files, &forged) {
         counts.kept = counts.kept.saturating_add(1);
     }
-    Ok(())
 }
 
 // So many images from a seed are forged, and counted.
-fn counts_of(
-    alloc: Global,
-    files: &mut MemFiles,
-    seed: u64,
-    count: u64,
-) -> Result<Counts, RowError> {
+fn counts_of(alloc: Global, files: &mut MemFiles, seed: u64, count: u64) -> Counts {
     let mut draws = Draws::new(seed);
     let mut counts = Counts { live: 0, kept: 0 };
     for _ in 0..count {
-        count_one(alloc, files, &mut draws, &mut counts)?;
+        count_one(alloc, files, &mut draws, &mut counts);
     }
-    Ok(counts)
+    counts
 }
 
 // A fresh image, and a script that does nothing.
-fn put_fresh(alloc: Global, files: &mut MemFiles) -> Result<(), RowError> {
-    files.replace("stat", b"stat /a\n")?;
-    let _made = answer(alloc, files, &["mkfs", "fresh", "96", "16", "16", "16"])?;
-    Ok(())
+fn put_fresh(alloc: Global, files: &mut MemFiles) {
+    let _is_there = files.replace("stat", b"stat /a\n");
+    let _made = answer(alloc, files, "mkfs fresh 96 16 16 16");
+}
+
+// Adds how many live entries so many images have, and how many of them are kept.
+fn put_counts(text: &mut Text, count: u64, counts: Counts) {
+    text.put_number(count);
+    text.put(" forged images with ");
+    text.put_number(counts.live);
+    text.put(" live entries: ");
+    text.put_number(counts.kept);
+    text.put(" are kept\n");
 }
 
 // `SEED COUNT`: so many images from this seed; how many live entries they have, and how many of them show, before and after a
 // mount, what they contain.
-pub(crate) fn forged_told(
-    alloc: Global,
-    files: &mut MemFiles,
-    words: &str,
-) -> Result<Vec<u8>, RowError> {
-    let (seed, count) = (number(word(words, 0))?, number(word(words, 1))?);
-    put_fresh(alloc, files)?;
-    let Counts { live, kept } = counts_of(alloc, files, seed, count)?;
-    let text = format!(in alloc;
-        "{count} forged images with {live} live entries: {kept} are kept\n"
-    )?;
-    Ok(text.into_bytes())
+pub(crate) fn put_forged(text: &mut Text, alloc: Global, files: &mut MemFiles, words: &str) {
+    match (number(word(words, 0)), number(word(words, 1))) {
+        (Ok(seed), Ok(count)) => {
+            put_fresh(alloc, files);
+            put_counts(text, count, counts_of(alloc, files, seed, count));
+        }
+        _ => text.misspell(),
+    }
 }

@@ -13,6 +13,7 @@ mod entries;
 mod forging;
 mod sessions;
 
-pub use commands::{answer, answer_over, command, words_of};
+pub use commands::{answer, command, done, put_answer_over};
+pub use entries::{put_entry, put_number};
 pub use sessions::session_told;
 pub use split_top::{Ran, remount_image, run_image};

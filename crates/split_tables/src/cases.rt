@@ -1,26 +1,27 @@
 //! A script on an image, in the plain model of the calls and through the top call.
 use crate::images::Image;
 use crate::modes::mode_of;
-use crate::scripts::{kept, printed};
+use crate::scripts::{printed, prints};
 use posix_spec::{Call, Item, Mode, Scripts, State, Tree, TreeNode, Who, root_alone};
-use std::alloc::Global;
-use std::str::from_utf8;
-use test_kit::{RowError, count_of, next_calls, read_history, scripts_of, shown_items, shown_tree};
+use std::alloc::{AllocError, Global};
+use test_kit::{
+    RowError, Text, count_of, next_calls, put_items, put_tree, read_history, scripts_of,
+};
 
 /// A script on a fresh image in a mode, and what the model says of its calls in the order in which they return.
 #[derive(Drop)]
 pub struct Case {
     pub(crate) mode: Mode,
     pub(crate) image: Image,
-    pub(crate) script: String,
-    // The words `order LIST` or `seed N` of a script of several threads, or none.
-    pub(crate) order: String,
+    pub(crate) script: Text,
+    // The words `order LIST` or `seed N` of a script of several threads with a blank in front, or none.
+    pub(crate) order: Text,
     scripts: Scripts,
     pub(crate) items: Vec<Item>,
     // The text of each item.
-    pub(crate) lines: Vec<String>,
+    pub(crate) lines: Vec<Text>,
     // The text of the tree before the first call, and after each.
-    trees: Vec<String>,
+    trees: Vec<Text>,
 }
 
 // Takes a large piece of memory and gives it back. The C library then holds what the many images of a case give back, and not
@@ -30,26 +31,39 @@ fn hold_memory(alloc: Global) -> Result<(), RowError> {
     Ok(())
 }
 
+// Adds the calls of a script by the first thread.
+fn add_calls(list: &mut Vec<(Who, Call)>, calls: &[Call]) -> Result<(), RowError> {
+    for call in calls {
+        list.push((Who::Thread(0), call.clone()?))?;
+    }
+    Ok(())
+}
+
 // The calls of the one thread of a script.
 fn calls_of(alloc: Global, scripts: &Scripts) -> Result<Vec<(Who, Call)>, RowError> {
     let mut calls = Vec::new(alloc);
-    for list in &scripts.threads {
-        for call in &list.calls {
-            calls.push((Who::Thread(0), call.clone()?))?;
-        }
+    if let Some(list) = scripts.threads.first() {
+        add_calls(&mut calls, &list.calls)?;
     }
     Ok(calls)
+}
+
+// The calls of a case as a whole run prints them.
+fn printed_calls(alloc: Global, case: &Case) -> Result<Vec<(Who, Call)>, RowError> {
+    let output = printed(alloc, case, &Text::new(alloc));
+    if output.is_whole() {
+        read_history(alloc, &case.scripts, output.as_str())
+    } else {
+        Err(RowError::NotRun)
+    }
 }
 
 // The calls of a case in the order in which they return: that of the script of one thread, and else that which is printed.
 fn course_of(alloc: Global, case: &Case) -> Result<Vec<(Who, Call)>, RowError> {
     if case.scripts.setup.calls.is_empty() && case.scripts.threads.len() <= 1 {
-        return calls_of(alloc, &case.scripts);
-    }
-    let output = printed(alloc, case, &[])?;
-    match from_utf8(&output) {
-        Ok(text) => read_history(alloc, &case.scripts, text),
-        Err(_) => Err(RowError::Misspelled),
+        calls_of(alloc, &case.scripts)
+    } else {
+        printed_calls(alloc, case)
     }
 }
 
@@ -65,16 +79,19 @@ fn item_of(items: &[Item], state: &mut State, who: Who, call: Call) -> Result<It
     })
 }
 
-// The text of the last item.
-fn last_line(alloc: Global, items: &[Item]) -> Result<String, RowError> {
-    let from = items.len().saturating_sub(1);
-    shown_items(alloc, items.get(from..).unwrap_or(&[]))
+// Adds the text of the last item.
+fn add_line(alloc: Global, case: &mut Case) -> Result<(), RowError> {
+    let from = case.items.len().saturating_sub(1);
+    let mut line = Text::new(alloc);
+    put_items(&mut line, alloc, case.items.get(from..).unwrap_or(&[]));
+    Ok(case.lines.push(line)?)
 }
 
-// The text of a state's tree.
-fn tree_text(alloc: Global, state: &State) -> Result<String, RowError> {
-    let tree = state.tree()?;
-    shown_tree(alloc, &tree)
+// Adds the text of a tree.
+fn add_tree(alloc: Global, case: &mut Case, tree: &Tree) -> Result<(), RowError> {
+    let mut text = Text::new(alloc);
+    put_tree(&mut text, alloc, tree);
+    Ok(case.trees.push(text)?)
 }
 
 // Does a call of the model, and adds its item and its texts.
@@ -87,75 +104,53 @@ fn add_call(
 ) -> Result<(), RowError> {
     let item = item_of(&case.items, state, who, call)?;
     case.items.push(item)?;
-    let line = last_line(alloc, &case.items)?;
-    case.lines.push(line)?;
-    let tree = tree_text(alloc, state)?;
-    case.trees.push(tree)?;
-    Ok(())
+    add_line(alloc, case)?;
+    add_tree(alloc, case, &state.tree()?)
 }
 
-// A script of which nothing is said yet.
-fn untold(
-    alloc: Global,
-    mode: &str,
-    numbers: &str,
-    script: &str,
-    order: &str,
-) -> Result<Case, RowError> {
-    Ok(Case {
-        mode: mode_of(mode)?,
-        image: Image::new(alloc, numbers)?,
-        script: script.to_string(alloc)?,
-        order: order.to_string(alloc)?,
-        scripts: scripts_of(alloc, script)?,
-        items: Vec::new(alloc),
-        lines: Vec::new(alloc),
-        trees: Vec::new(alloc),
-    })
-}
-
-// Does calls of the model, one after another, and adds their items and texts.
-fn add_calls(
-    alloc: Global,
-    case: &mut Case,
-    state: &mut State,
-    calls: Vec<(Who, Call)>,
-) -> Result<(), RowError> {
-    for (who, call) in calls {
+// Does the calls of the case from this state on.
+fn add_course(alloc: Global, case: &mut Case, state: &mut State) -> Result<(), RowError> {
+    for (who, call) in course_of(alloc, case)? {
         add_call(alloc, case, state, who, call)?;
     }
     Ok(())
 }
 
-// Does the calls of the case from this state on.
-fn add_course(alloc: Global, case: &mut Case, state: &mut State) -> Result<(), RowError> {
-    let calls = course_of(alloc, case)?;
-    add_calls(alloc, case, state, calls)
-}
-
-// How many bytes the files of a state have, of those with a name.
-fn bytes_in(state: &State) -> Result<u64, RowError> {
-    let tree = state.tree()?;
+// How many bytes the files of a tree have.
+fn bytes_in(tree: &Tree) -> u64 {
     let mut count: u64 = 0;
     for entry in &tree.entries {
         if let TreeNode::File(data) = &entry.node {
             count = count.saturating_add(data.bytes.len() as u64);
         }
     }
-    Ok(count)
+    count
+}
+
+// How many bytes the files of a state have, of those with a name.
+fn bytes_of(state: &State) -> Result<u64, AllocError> {
+    let tree = state.tree()?;
+    Ok(bytes_in(&tree))
 }
 
 // Whether a write makes its file longer, if that has a name. (No tree shows one that has none.)
-fn lengthens(state: &mut State, who: Who, call: &Call) -> Result<bool, RowError> {
-    let before = bytes_in(state)?;
+fn lengthens(state: &mut State, who: Who, call: &Call) -> Result<bool, AllocError> {
+    let before = bytes_of(state)?;
     let _outcome = state.apply(who, call)?;
-    Ok(bytes_in(state)? > before)
+    Ok(bytes_of(state)? > before)
+}
+
+// Does these calls of the model.
+fn do_all(state: &mut State, items: &[Item]) -> Result<(), AllocError> {
+    for item in items {
+        let _outcome = state.apply(item.who, &item.call)?;
+    }
+    Ok(())
 }
 
 // Says what the model says of the script, from this tree on.
 fn tell_from(alloc: Global, case: &mut Case, root: &Tree) -> Result<(), RowError> {
-    let tree = shown_tree(alloc, root)?;
-    case.trees.push(tree)?;
+    add_tree(alloc, case, root)?;
     let mut state = State::open(alloc, root, case.image.shape, case.mode)?;
     add_course(alloc, case, &mut state)
 }
@@ -164,6 +159,53 @@ fn tell_from(alloc: Global, case: &mut Case, root: &Tree) -> Result<(), RowError
 fn tell(alloc: Global, case: &mut Case) -> Result<(), RowError> {
     let root = root_alone(alloc)?;
     tell_from(alloc, case, &root)
+}
+
+// The text with a blank in front; none of an empty one.
+fn with_blank(alloc: Global, words: &str) -> Text {
+    let mut text = Text::new(alloc);
+    if !words.is_empty() {
+        text.put(" ");
+        text.put(words);
+    }
+    text
+}
+
+// A script of which nothing is said yet.
+fn untold(
+    alloc: Global,
+    mode: Mode,
+    image: Image,
+    scripts: Scripts,
+    script: &str,
+    order: &str,
+) -> Case {
+    let mut text = Text::new(alloc);
+    text.put(script);
+    Case {
+        mode,
+        image,
+        script: text,
+        order: with_blank(alloc, order),
+        scripts,
+        items: Vec::new(alloc),
+        lines: Vec::new(alloc),
+        trees: Vec::new(alloc),
+    }
+}
+
+// Likewise by the words of a row.
+fn begun(
+    alloc: Global,
+    mode: &str,
+    numbers: &str,
+    script: &str,
+    order: &str,
+) -> Result<Case, RowError> {
+    let mode = mode_of(mode).ok_or(RowError::Misspelled)?;
+    let scripts = scripts_of(alloc, script)?;
+    let image = Image::new(alloc, numbers)?;
+    Ok(untold(alloc, mode, image, scripts, script, order))
 }
 
 impl Case {
@@ -183,25 +225,21 @@ impl Case {
         order: &str,
     ) -> Result<Case, RowError> {
         hold_memory(alloc)?;
-        let mut case = untold(alloc, mode, numbers, script, order)?;
+        let mut case = begun(alloc, mode, numbers, script, order)?;
         tell(alloc, &mut case)?;
         Ok(case)
     }
 
     // The next call of each caller behind so many calls.
-    pub(crate) fn next(&self, alloc: Global, calls: usize) -> Result<Vec<(Who, Call)>, RowError> {
+    pub(crate) fn next(&self, alloc: Global, calls: usize) -> Result<Vec<(Who, Call)>, AllocError> {
         let history = self.items.get(..calls).unwrap_or(&[]);
-        Ok(next_calls(alloc, &self.scripts, history)?)
+        next_calls(alloc, &self.scripts, history)
     }
 
-    // The state behind so many calls.
-    fn state_behind(&self, alloc: Global, calls: usize) -> Result<State, RowError> {
+    // The state before the first call.
+    fn first_state(&self, alloc: Global) -> Result<State, AllocError> {
         let root = root_alone(alloc)?;
-        let mut state = State::open(alloc, &root, self.image.shape, self.mode)?;
-        for item in self.items.get(..calls).unwrap_or(&[]) {
-            let _outcome = state.apply(item.who, &item.call)?;
-        }
-        Ok(state)
+        State::open(alloc, &root, self.image.shape, self.mode)
     }
 
     // Whether a write of a caller makes its file longer behind so many calls.
@@ -211,8 +249,9 @@ impl Case {
         calls: usize,
         who: Who,
         call: &Call,
-    ) -> Result<bool, RowError> {
-        let mut state = self.state_behind(alloc, calls)?;
+    ) -> Result<bool, AllocError> {
+        let mut state = self.first_state(alloc)?;
+        do_all(&mut state, self.items.get(..calls).unwrap_or(&[]))?;
         lengthens(&mut state, who, call)
     }
 
@@ -221,36 +260,41 @@ impl Case {
         self.items.len()
     }
 
-    // What the model prints of the history.
-    fn history(&self, alloc: Global) -> Result<String, RowError> {
-        let mut text = String::new(alloc);
+    // Adds what the model prints of the history.
+    fn put_history(&self, text: &mut Text) {
         for line in &self.lines {
-            text.push_str(line.as_str())?;
+            text.put_text(line);
         }
-        Ok(text)
     }
 
-    /// Whether the model prints this history.
-    pub fn has_history(&self, alloc: Global, history: &str) -> Result<bool, RowError> {
-        Ok(self.history(alloc)?.as_str() == history)
+    // Whether the model prints this history.
+    pub(crate) fn has_history(&self, alloc: Global, history: &Text) -> bool {
+        let mut text = Text::new(alloc);
+        self.put_history(&mut text);
+        text.is_same(history)
     }
 
-    /// Whether the model prints this tree after so many calls.
-    pub fn has_tree(&self, calls: usize, tree: &str) -> bool {
+    // Whether the model prints this tree after so many calls.
+    pub(crate) fn has_tree(&self, calls: usize, tree: &Text) -> bool {
         match self.trees.get(calls) {
-            Some(text) => text.as_str() == tree,
+            Some(text) => text.is_same(tree),
             None => false,
         }
     }
 
+    // Whether the whole run prints the history and this tree, which is that of the image it leaves.
+    fn runs_to(&self, alloc: Global, last: &Text) -> bool {
+        let mut text = Text::new(alloc);
+        self.put_history(&mut text);
+        text.put_text(last);
+        prints(alloc, self, &text, last)
+    }
+
     /// Whether the whole run prints what the model does, and leaves an image with the last tree.
-    pub fn runs_as_told(&self, alloc: Global) -> Result<bool, RowError> {
-        let Some(last) = self.trees.last() else {
-            return Ok(false);
-        };
-        let (output, tree) = kept(alloc, self)?;
-        let mut text = self.history(alloc)?;
-        text.push_str(last.as_str())?;
-        Ok(output.as_slice() == text.as_bytes() && tree.as_slice() == last.as_bytes())
+    pub fn runs_as_told(&self, alloc: Global) -> bool {
+        match self.trees.last() {
+            Some(last) => self.runs_to(alloc, last),
+            None => false,
+        }
     }
 }

@@ -8,7 +8,9 @@ use test_kit::{RowError, small_number, word};
 // An image: that of `mkfs` with four numbers, or the fresh default one, and its shape.
 #[derive(Drop)]
 pub(crate) struct Image {
-    bytes: Option<Vec<u8>>,
+    // The bytes of an image of its own; none of the default one.
+    bytes: Vec<u8>,
+    is_default: bool,
     pub(crate) shape: Shape,
 }
 
@@ -30,24 +32,21 @@ fn shape_of(numbers: &str) -> Result<Shape, RowError> {
 impl Image {
     // The image with these numbers; the default one where there are none.
     pub(crate) fn new(alloc: Global, numbers: &str) -> Result<Image, RowError> {
-        if numbers.is_empty() {
-            Ok(Image {
-                bytes: None,
-                shape: default_shape(),
-            })
+        let is_default = numbers.is_empty();
+        let shape = if is_default {
+            default_shape()
         } else {
-            Ok(Image {
-                bytes: Some(fresh(alloc, numbers)?),
-                shape: shape_of(numbers)?,
-            })
-        }
+            shape_of(numbers)?
+        };
+        Ok(Image {
+            bytes: fresh(alloc, numbers),
+            is_default,
+            shape,
+        })
     }
 
     // The bytes of an image of its own.
     pub(crate) fn bytes(&self) -> Option<&[u8]> {
-        match &self.bytes {
-            None => None,
-            Some(bytes) => Some(bytes.as_slice()),
-        }
+        (!self.is_default).then_some(self.bytes.as_slice())
     }
 }

@@ -23,7 +23,9 @@ mod stops;
 mod verdicts;
 
 pub use cases::Case;
-pub use losses::{CHOICES, fault_of, forbidden_in_turn, is_permitted, left_by_cut};
-pub use split_sessions::{Ran, answer, answer_over, remount_image, run_image, session_told};
+pub use losses::{CHOICES, are_permitted_in_turn, is_permitted, left_by_cut};
+pub use split_sessions::{
+    Ran, answer, put_answer_over, put_entry, put_number, remount_image, run_image, session_told,
+};
 pub use stops::{Stops, Unit};
 pub use verdicts::losses_told;

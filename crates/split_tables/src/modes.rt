@@ -1,14 +1,13 @@
 //! The modes of scripts, by the words of commands and rows.
 use posix_spec::Mode;
-use test_kit::RowError;
 
 // The mode that a word names.
-pub(crate) fn mode_of(word: &str) -> Result<Mode, RowError> {
+pub(crate) fn mode_of(word: &str) -> Option<Mode> {
     match word {
-        "strict" => Ok(Mode::Strict),
-        "sync" => Ok(Mode::Sync),
-        "posix" => Ok(Mode::Posix),
-        _ => Err(RowError::Misspelled),
+        "strict" => Some(Mode::Strict),
+        "sync" => Some(Mode::Sync),
+        "posix" => Some(Mode::Posix),
+        _ => None,
     }
 }
 

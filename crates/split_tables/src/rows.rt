@@ -1,15 +1,15 @@
 //! What a row of a script with power losses says.
 use posix_spec::Who;
 use std::alloc::Global;
-use test_kit::{RowError, asked, caller, number, option, printed_call, printed_lines, spelled};
+use test_kit::{RowError, Text, asked, caller, number, option, put_call, put_lines};
 
 // A script, and what it is to print.
 #[derive(Drop)]
 pub(crate) struct Told {
-    pub(crate) script: String,
-    pub(crate) history: String,
+    pub(crate) script: Text,
+    pub(crate) history: Text,
     // The text of the tree after so many calls.
-    pub(crate) trees: Vec<(usize, String)>,
+    pub(crate) trees: Vec<(usize, Text)>,
     calls: usize,
     setup: Part,
     threads: Vec<Part>,
@@ -18,7 +18,7 @@ pub(crate) struct Told {
 // The lines of one caller, and how many they are.
 #[derive(Drop)]
 struct Part {
-    lines: String,
+    lines: Text,
     count: u32,
 }
 
@@ -69,6 +69,17 @@ fn add_number(losses: &mut Losses, kind: Kind, number: u64) -> Result<(), RowErr
     Ok(())
 }
 
+fn add_numbers(losses: &mut Losses, words: &str) -> Result<(), RowError> {
+    let mut kind = Kind::Every;
+    for word in words.split(' ') {
+        match kind_of(word) {
+            Some(other) => kind = other,
+            None => add_number(losses, kind, number(word)?)?,
+        }
+    }
+    Ok(())
+}
+
 // The losses of a row: `losses every N from N to N each K .. cuts N`, as far as they are wanted.
 pub(crate) fn losses_of(alloc: Global, row: &str) -> Result<Losses, RowError> {
     let mut losses = Losses {
@@ -78,90 +89,90 @@ pub(crate) fn losses_of(alloc: Global, row: &str) -> Result<Losses, RowError> {
         each: Vec::new(alloc),
         cuts: 0,
     };
-    let Some(words) = option(row, "losses") else {
-        return Ok(losses);
-    };
-    let mut kind = Kind::Every;
-    for word in words.split(' ') {
-        match kind_of(word) {
-            Some(other) => kind = other,
-            None => add_number(&mut losses, kind, number(word)?)?,
-        }
+    if let Some(words) = option(row, "losses") {
+        add_numbers(&mut losses, words)?;
     }
     Ok(losses)
 }
 
 fn no_lines(alloc: Global) -> Part {
     Part {
-        lines: String::new(alloc),
+        lines: Text::new(alloc),
         count: 0,
     }
 }
 
 // Adds a call to the lines of a caller, and tells its number.
-fn add_line(part: &mut Part, call: &str) -> Result<u32, RowError> {
+fn add_line(part: &mut Part, call: &str) -> u32 {
     let place = part.count;
-    part.lines.push_str(call)?;
-    part.lines.push('\n')?;
+    part.lines.put_words(call);
+    part.lines.put("\n");
     part.count = place.saturating_add(1);
-    Ok(place)
+    place
+}
+
+// Adds a call to the lines of a thread, and tells its number.
+fn add_to_thread(
+    alloc: Global,
+    threads: &mut Vec<Part>,
+    thread: usize,
+    call: &str,
+) -> Result<u32, RowError> {
+    for _more in threads.len()..thread.saturating_add(1) {
+        threads.push(no_lines(alloc))?;
+    }
+    match threads.get_mut(thread) {
+        Some(part) => Ok(add_line(part, call)),
+        None => Err(RowError::Misspelled),
+    }
 }
 
 // Adds a call to the lines of its caller, and tells its number.
 fn add_to(alloc: Global, told: &mut Told, who: Who, call: &str) -> Result<u32, RowError> {
     match who {
-        Who::Setup => add_line(&mut told.setup, call),
-        Who::Thread(thread) => {
-            let thread = thread as usize;
-            for _more in told.threads.len()..thread.saturating_add(1) {
-                told.threads.push(no_lines(alloc))?;
-            }
-            match told.threads.get_mut(thread) {
-                Some(part) => add_line(part, call),
-                None => Err(RowError::Misspelled),
-            }
-        }
+        Who::Setup => Ok(add_line(&mut told.setup, call)),
+        Who::Thread(thread) => add_to_thread(alloc, &mut told.threads, thread as usize, call),
     }
 }
 
 // Adds a call with its reply.
 fn add_call(alloc: Global, told: &mut Told, call: &str, line: &str) -> Result<(), RowError> {
     let (who, call) = caller(call)?;
-    let call = spelled(alloc, call)?;
-    let place = add_to(alloc, told, who, call.as_str())?;
-    told.history
-        .push_str(printed_call(alloc, place, line)?.as_str())?;
+    let place = add_to(alloc, told, who, call)?;
+    put_call(&mut told.history, place, line);
     told.calls = told.calls.saturating_add(1);
     Ok(())
 }
 
 // Puts the script together: the lines of the one thread, or those of each caller below a heading.
-fn add_script(told: &mut Told) -> Result<(), RowError> {
+fn add_script(told: &mut Told) {
     let is_headed = told.setup.count > 0 || told.threads.len() > 1;
     if is_headed {
-        told.script.push_str("setup\n")?;
-        told.script.push_str(told.setup.lines.as_str())?;
+        told.script.put("setup\n");
+        told.script.put_text(&told.setup.lines);
     }
     for part in &told.threads {
         if is_headed {
-            told.script.push_str("thread\n")?;
+            told.script.put("thread\n");
         }
-        told.script.push_str(part.lines.as_str())?;
+        told.script.put_text(&part.lines);
     }
-    Ok(())
+}
+
+// Adds a tree.
+fn add_tree(alloc: Global, told: &mut Told, entries: &str) -> Result<(), RowError> {
+    let mut tree = Text::new(alloc);
+    put_lines(&mut tree, entries);
+    Ok(told.trees.push((told.calls, tree))?)
 }
 
 // Adds what a line of a row says.
 fn add_told(alloc: Global, told: &mut Told, line: &str) -> Result<(), RowError> {
     match asked(line) {
-        None => {}
-        Some(("tree", entries)) => {
-            let tree = printed_lines(alloc, entries)?;
-            told.trees.push((told.calls, tree))?;
-        }
-        Some((call, _reply)) => add_call(alloc, told, call, line)?,
+        None => Ok(()),
+        Some(("tree", entries)) => add_tree(alloc, told, entries),
+        Some((call, _reply)) => add_call(alloc, told, call, line),
     }
-    Ok(())
 }
 
 // Adds what the lines of a row say.
@@ -169,19 +180,25 @@ fn add_lines(alloc: Global, told: &mut Told, row: &str) -> Result<(), RowError> 
     for line in row.lines() {
         add_told(alloc, told, line)?;
     }
-    add_script(told)
+    add_script(told);
+    Ok(())
 }
 
-// What the lines of a row say.
-pub(crate) fn told_by(alloc: Global, row: &str) -> Result<Told, RowError> {
-    let mut told = Told {
-        script: String::new(alloc),
-        history: String::new(alloc),
+// Nothing is said.
+fn untold(alloc: Global) -> Told {
+    Told {
+        script: Text::new(alloc),
+        history: Text::new(alloc),
         trees: Vec::new(alloc),
         calls: 0,
         setup: no_lines(alloc),
         threads: Vec::new(alloc),
-    };
+    }
+}
+
+// What the lines of a row say.
+pub(crate) fn told_by(alloc: Global, row: &str) -> Result<Told, RowError> {
+    let mut told = untold(alloc);
     add_lines(alloc, &mut told, row)?;
     Ok(told)
 }

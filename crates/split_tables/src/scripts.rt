@@ -1,93 +1,101 @@
-//! Images and scripts through the top call, in memory.
+//! Images and scripts through the top call, in memory. An image that cannot be had is empty.
 use crate::cases::Case;
 use crate::modes::word_of;
-use command_line::Status;
-use outside::{Files, MemFiles, MemSink};
-use split_sessions::{command, words_of};
-use std::alloc::{AllocError, Global};
-use test_kit::RowError;
+use outside::{Files, MemFiles};
+use split_sessions::done;
+use std::alloc::Global;
+use test_kit::Text;
 
-// What a command puts that is done.
-fn output_of(alloc: Global, files: &mut MemFiles, words: &[String]) -> Result<Vec<u8>, RowError> {
-    let mut out = MemSink::new(alloc, Vec::new(alloc));
-    match command(alloc, words, files, &mut out) {
-        Status::Done => Ok(Vec::from_slice(alloc, out.bytes())?),
-        _ => Err(RowError::NotRun),
-    }
+// The same bytes once more.
+fn copied(alloc: Global, bytes: &[u8]) -> Vec<u8> {
+    Vec::from_slice(alloc, bytes).unwrap_or(Vec::new(alloc))
 }
 
-/// The image that `mkfs` makes with these numbers, which are parted by blanks.
-pub fn fresh(alloc: Global, numbers: &str) -> Result<Vec<u8>, RowError> {
-    let mut words = words_of(alloc, &["mkfs", "I"])?;
-    for number in numbers.split(' ') {
-        words.push(number.to_string(alloc)?)?;
-    }
+// The bytes of a file.
+fn read(alloc: Global, files: &mut MemFiles, name: &str) -> Vec<u8> {
+    files.read(alloc, name).unwrap_or(Vec::new(alloc))
+}
+
+// Makes the image `I` with these numbers.
+fn make(alloc: Global, files: &mut MemFiles, numbers: &str) {
+    let mut line = Text::new(alloc);
+    line.put("mkfs I ");
+    line.put(numbers);
+    let _line = done(alloc, files, line.as_str());
+}
+
+// The image that `mkfs` makes with these numbers, which are parted by blanks; nothing where there are none.
+pub(crate) fn fresh(alloc: Global, numbers: &str) -> Vec<u8> {
     let mut files = MemFiles::new(alloc, Vec::new(alloc), Vec::new(alloc));
-    let _line = output_of(alloc, &mut files, &words)?;
-    Ok(files.read(alloc, "I")?)
+    make(alloc, &mut files, numbers);
+    read(alloc, &mut files, "I")
+}
+
+// Adds a file.
+fn add_file(alloc: Global, list: &mut Vec<(String, Vec<u8>)>, name: &str, bytes: &[u8]) {
+    if let Ok(name) = name.to_string(alloc) {
+        let _is_there = list.push((name, copied(alloc, bytes)));
+    }
 }
 
 // The script under the name `S`, and the image, if it is one of its own, under the name `I`.
-fn files_of(alloc: Global, image: Option<&[u8]>, script: &str) -> Result<MemFiles, AllocError> {
+fn files_of(alloc: Global, image: Option<&[u8]>, script: &str) -> MemFiles {
     let mut list = Vec::new(alloc);
-    let bytes = Vec::from_slice(alloc, script.as_bytes())?;
-    list.push(("S".to_string(alloc)?, bytes))?;
+    add_file(alloc, &mut list, "S", script.as_bytes());
     if let Some(bytes) = image {
-        list.push(("I".to_string(alloc)?, Vec::from_slice(alloc, bytes)?))?;
+        add_file(alloc, &mut list, "I", bytes);
     }
-    Ok(MemFiles::new(alloc, list, Vec::new(alloc)))
+    MemFiles::new(alloc, list, Vec::new(alloc))
 }
 
 // The words `step IMAGE S MODE` of a case, with these options behind them.
-fn step_words(alloc: Global, case: &Case, options: &[&str]) -> Result<Vec<String>, AllocError> {
-    let name = if case.image.bytes().is_some() {
+fn put_step(line: &mut Text, case: &Case, options: &Text) {
+    line.put("step ");
+    line.put(if case.image.bytes().is_some() {
         "I"
     } else {
         "-"
-    };
-    let mut words = words_of(alloc, &["step", name, "S", word_of(case.mode)])?;
-    for word in case.order.split(' ') {
-        if !word.is_empty() {
-            words.push(word.to_string(alloc)?)?;
-        }
-    }
-    for word in options {
-        words.push(word.to_string(alloc)?)?;
-    }
-    Ok(words)
+    });
+    line.put(" S ");
+    line.put(word_of(case.mode));
+    line.put_text(&case.order);
+    line.put_text(options);
 }
 
-// What the script of a case prints with these options, and the files that it leaves.
-fn ran(alloc: Global, case: &Case, options: &[&str]) -> Result<(Vec<u8>, MemFiles), RowError> {
-    let words = step_words(alloc, case, options)?;
-    let mut files = files_of(alloc, case.image.bytes(), case.script.as_str())?;
-    let output = output_of(alloc, &mut files, &words)?;
-    Ok((output, files))
+// What the script of a case prints over files with these options. Where it is not run that is not whole.
+fn run(alloc: Global, files: &mut MemFiles, case: &Case, options: &Text) -> Text {
+    let mut line = Text::new(alloc);
+    put_step(&mut line, case, options);
+    done(alloc, files, line.as_str())
 }
 
-/// What the script of a case prints with these options.
-pub(crate) fn printed(alloc: Global, case: &Case, options: &[&str]) -> Result<Vec<u8>, RowError> {
-    let (output, _files) = ran(alloc, case, options)?;
-    Ok(output)
+// What the script of a case prints with these options, each word with a blank in front.
+pub(crate) fn printed(alloc: Global, case: &Case, options: &Text) -> Text {
+    let mut files = files_of(alloc, case.image.bytes(), case.script.as_str());
+    run(alloc, &mut files, case, options)
 }
 
-// The tree of the image that is kept.
-fn kept_tree(alloc: Global, files: &mut MemFiles) -> Result<Vec<u8>, RowError> {
-    let words = words_of(alloc, &["tree", "H"])?;
-    output_of(alloc, files, &words)
+// Whether the script of a case prints this, and leaves an image with this tree.
+pub(crate) fn prints(alloc: Global, case: &Case, wanted: &Text, tree: &Text) -> bool {
+    let mut files = files_of(alloc, case.image.bytes(), case.script.as_str());
+    let mut keep = Text::new(alloc);
+    keep.put(" keep H");
+    run(alloc, &mut files, case, &keep).is_same(wanted)
+        && done(alloc, &mut files, "tree H").is_same(tree)
 }
 
-/// What the script of a case prints, and then the tree of the image that it leaves.
-pub(crate) fn kept(alloc: Global, case: &Case) -> Result<(Vec<u8>, Vec<u8>), RowError> {
-    let (output, mut files) = ran(alloc, case, &["keep", "H"])?;
-    let tree = kept_tree(alloc, &mut files)?;
-    Ok((output, tree))
+// The options that have the power go after so many steps, and the oldest of the medium's words kept.
+fn put_stop(options: &mut Text, steps: u64) {
+    options.put(" stop ");
+    options.put_number(steps);
+    options.put(" choose oldest keep H");
 }
 
-/// The image that is kept where the power goes after so many steps, and the medium has what is oldest.
-pub(crate) fn image_at(alloc: Global, case: &Case, steps: u64) -> Result<Vec<u8>, RowError> {
-    let steps = format!(in alloc; "{steps}")?;
-    let options = ["stop", steps.as_str(), "choose", "oldest", "keep", "H"];
-    let (_output, mut files) = ran(alloc, case, &options)?;
-    Ok(files.read(alloc, "H")?)
+// The image that is kept where the power goes after so many steps, and the medium has what is oldest.
+pub(crate) fn image_at(alloc: Global, case: &Case, steps: u64) -> Vec<u8> {
+    let mut files = files_of(alloc, case.image.bytes(), case.script.as_str());
+    let mut options = Text::new(alloc);
+    put_stop(&mut options, steps);
+    let _output = run(alloc, &mut files, case, &options);
+    read(alloc, &mut files, "H")
 }

@@ -1,33 +1,31 @@
-//! How a row of a script with power losses goes.
+//! How a row of a script with power losses goes. What is wrong with it is put into a text, in which nothing stands while all is right.
 use crate::cases::Case;
-use crate::losses::fault_of;
+use crate::losses::are_right;
 use crate::rows::{Losses, Told, losses_of, told_by};
 use crate::stops::{Stops, Unit};
 use std::alloc::Global;
-use test_kit::{RowError, option};
+use test_kit::{RowError, Text, option};
 
-// Whether the model prints the history of a row and its trees.
-fn is_as_told(alloc: Global, told: &Told, case: &Case) -> Result<bool, RowError> {
+// Whether the model prints the trees of a row.
+fn has_trees(told: &Told, case: &Case) -> bool {
     for (calls, tree) in &told.trees {
-        if !case.has_tree(*calls, tree.as_str()) {
-            return Ok(false);
+        if !case.has_tree(*calls, tree) {
+            return false;
         }
     }
     // Behind the last tree that is told nothing changes.
     match told.trees.last() {
-        Some((_calls, tree)) if case.has_tree(case.calls(), tree.as_str()) => {
-            case.has_history(alloc, told.history.as_str())
-        }
-        _ => Ok(false),
+        Some((_calls, tree)) => case.has_tree(case.calls(), tree),
+        None => false,
     }
 }
 
 // The stops that are not those of single calls.
-fn stops_of(alloc: Global, losses: &Losses, case: &Case) -> Result<Stops, RowError> {
+fn stops_of(alloc: Global, losses: &Losses, case: &Case) -> Option<Stops> {
     if losses.to == 0 {
         return Stops::of_all(alloc, case, losses.from, losses.every);
     }
-    Ok(Stops {
+    Some(Stops {
         unit: Unit::Step,
         first: losses.from,
         last: losses.to,
@@ -35,100 +33,115 @@ fn stops_of(alloc: Global, losses: &Losses, case: &Case) -> Result<Stops, RowErr
     })
 }
 
-// What is wrong with the losses at steps so many apart, where there are some.
-fn fault_apart(alloc: Global, losses: &Losses, case: &Case) -> Result<Option<String>, RowError> {
-    if losses.every == 0 {
-        return Ok(None);
-    }
-    let stops = stops_of(alloc, losses, case)?;
-    fault_of(alloc, case, &stops)
-}
-
-// What is wrong with the losses behind events, where there are some.
-fn fault_at_cuts(alloc: Global, losses: &Losses, case: &Case) -> Result<Option<String>, RowError> {
-    if losses.cuts == 0 {
-        return Ok(None);
-    }
-    fault_of(alloc, case, &Stops::of_events(0, losses.cuts))
-}
-
-// What is wrong with the losses at each step of these calls.
-fn fault_in_calls(alloc: Global, each: &[u64], case: &Case) -> Result<Option<String>, RowError> {
-    for call in each {
-        let stops = Stops::of_call(alloc, case, *call as usize)?;
-        if let Some(fault) = fault_of(alloc, case, &stops)? {
-            return Ok(Some(fault));
+// Whether the losses at these stops are right.
+fn are_all_right(alloc: Global, case: &Case, stops: Option<Stops>, fault: &mut Text) -> bool {
+    match stops {
+        Some(stops) => are_right(alloc, case, &stops, fault),
+        None => {
+            fault.put("no step is the last one");
+            false
         }
     }
-    Ok(None)
 }
 
-// What is wrong with the losses of a row.
-fn fault_told(alloc: Global, losses: &Losses, case: &Case) -> Result<Option<String>, RowError> {
-    if let Some(fault) = fault_apart(alloc, losses, case)? {
-        return Ok(Some(fault));
+// Whether the losses at steps so many apart are right, where there are some.
+fn is_right_apart(alloc: Global, losses: &Losses, case: &Case, fault: &mut Text) -> bool {
+    losses.every == 0 || are_all_right(alloc, case, stops_of(alloc, losses, case), fault)
+}
+
+// Whether the losses behind events are right, where there are some.
+fn is_right_at_cuts(alloc: Global, losses: &Losses, case: &Case, fault: &mut Text) -> bool {
+    losses.cuts == 0 || are_right(alloc, case, &Stops::of_events(0, losses.cuts), fault)
+}
+
+// Whether the losses at each step of these calls are right.
+fn is_right_in_calls(alloc: Global, each: &[u64], case: &Case, fault: &mut Text) -> bool {
+    for call in each {
+        let stops = Stops::of_call(alloc, case, *call as usize);
+        if !are_all_right(alloc, case, stops, fault) {
+            return false;
+        }
     }
-    if let Some(fault) = fault_at_cuts(alloc, losses, case)? {
-        return Ok(Some(fault));
-    }
-    fault_in_calls(alloc, &losses.each, case)
+    true
+}
+
+// Whether the losses of a row are right.
+fn are_losses_right(alloc: Global, losses: &Losses, case: &Case, fault: &mut Text) -> bool {
+    is_right_apart(alloc, losses, case, fault)
+        && is_right_at_cuts(alloc, losses, case, fault)
+        && is_right_in_calls(alloc, &losses.each, case, fault)
 }
 
 // The words of a command line that say in which order the threads of a row are picked.
-fn order_of(alloc: Global, row: &str) -> Result<String, RowError> {
-    for word in ["order", "seed"] {
+fn put_order(order: &mut Text, row: &str) {
+    for word in &["order", "seed"] {
         if let Some(words) = option(row, word) {
-            return Ok(format!(in alloc; "{word} {words}")?);
+            order.put(word);
+            order.put(" ");
+            order.put(words);
+            return;
         }
     }
-    Ok(String::new(alloc))
 }
 
-// What is wrong with a script: the model, the run, or a loss.
-fn case_fault(
-    alloc: Global,
-    row: &str,
-    told: &Told,
-    case: &Case,
-) -> Result<Option<String>, RowError> {
-    if !is_as_told(alloc, told, case)? {
-        let text = "the model of the calls answers otherwise";
-        return Ok(Some(text.to_string(alloc)?));
+// Whether the model and the run go as a row says.
+fn is_run_right(alloc: Global, told: &Told, case: &Case, fault: &mut Text) -> bool {
+    if !has_trees(told, case) || !case.has_history(alloc, &told.history) {
+        fault.put("the model of the calls answers otherwise");
+        return false;
     }
-    if !case.runs_as_told(alloc)? {
-        return Ok(Some("the run answers otherwise".to_string(alloc)?));
+    if !case.runs_as_told(alloc) {
+        fault.put("the run answers otherwise");
+        return false;
     }
-    let losses = losses_of(alloc, row)?;
-    fault_told(alloc, &losses, case)
+    true
 }
 
 // The script of a row, in the mode of a word.
-fn case_in(alloc: Global, mode: &str, row: &str, script: &str) -> Result<Case, RowError> {
+fn case_in(alloc: Global, mode: &str, row: &str, script: &Text) -> Result<Case, RowError> {
     let image = option(row, "image").unwrap_or("");
-    let order = order_of(alloc, row)?;
-    Case::ordered(alloc, mode, image, script, order.as_str())
+    let mut order = Text::new(alloc);
+    put_order(&mut order, row);
+    Case::ordered(alloc, mode, image, script.as_str(), order.as_str())
 }
 
-// What is wrong with a script in the mode of a word.
-fn fault_in(alloc: Global, mode: &str, row: &str, told: &Told) -> Result<Option<String>, RowError> {
-    let case = case_in(alloc, mode, row, told.script.as_str())?;
-    case_fault(alloc, row, told, &case)
-}
-
-// What is wrong with the script of a row in the first of its modes in which something is.
-fn told_fault(alloc: Global, row: &str, told: &Told) -> Result<Option<String>, RowError> {
-    for mode in option(row, "modes").unwrap_or("strict").split(' ') {
-        if let Some(fault) = fault_in(alloc, mode, row, told)? {
-            return Ok(Some(format!(in alloc; "{mode}: {fault}")?));
+// Whether a script in the mode of a word is right.
+fn is_right_in(
+    alloc: Global,
+    mode: &str,
+    row: &str,
+    told: &Told,
+    losses: &Losses,
+    fault: &mut Text,
+) -> bool {
+    match case_in(alloc, mode, row, &told.script) {
+        Ok(case) => {
+            is_run_right(alloc, told, &case, fault) && are_losses_right(alloc, losses, &case, fault)
+        }
+        Err(why) => {
+            fault.put_fault(&why);
+            false
         }
     }
-    Ok(None)
 }
 
-// What is wrong with a row.
-fn row_fault(alloc: Global, row: &str) -> Result<Option<String>, RowError> {
+// Whether the script of a row is right in each of its modes. What is wrong is put behind the first mode in which something is.
+fn is_told_right(alloc: Global, row: &str, told: &Told, losses: &Losses, fault: &mut Text) -> bool {
+    for mode in option(row, "modes").unwrap_or("strict").split(' ') {
+        if !is_right_in(alloc, mode, row, told, losses, fault) {
+            fault.put(", in the mode ");
+            fault.put(mode);
+            return false;
+        }
+    }
+    true
+}
+
+// Whether a row is right.
+fn is_row_right(alloc: Global, row: &str, fault: &mut Text) -> Result<bool, RowError> {
+    let losses = losses_of(alloc, row)?;
     let told = told_by(alloc, row)?;
-    told_fault(alloc, row, &told)
+    Ok(is_told_right(alloc, row, &told, &losses, fault))
 }
 
 /// How a script with power losses goes: `ok`, or what is wrong. Its options are `modes MODE ..`, the modes in which it is run,
@@ -141,8 +154,9 @@ fn row_fault(alloc: Global, row: &str) -> Result<Option<String>, RowError> {
 /// does, and each loss must be permitted, with five choices of what the medium has. Its losses have to lose calls, and where
 /// they are one step apart a choice has to make a difference.
 pub fn losses_told(alloc: Global, row: &str) -> Result<String, RowError> {
-    match row_fault(alloc, row)? {
-        Some(fault) => Ok(fault),
-        None => Ok("ok".to_string(alloc)?),
+    let mut told = Text::new(alloc);
+    if is_row_right(alloc, row, &mut told)? {
+        told.put("ok");
     }
+    told.end()
 }

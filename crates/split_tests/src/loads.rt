@@ -1,6 +1,7 @@
 //! The command `load`: its scripts, and the sums that it puts.
 use crate::asserting::assert_sessions;
 use split_cases::load_script;
+use std::alloc::Global;
 use std::test::Fail;
 
 const SUMS: &str = "\
@@ -59,9 +60,15 @@ fn sums_of_loads(rt: HostRuntime) -> Result<(), Fail> {
     assert_sessions(&rt, SUMS, 4)
 }
 
+// Whether the script of a load of four calls of each of three threads is that one.
+fn is_text_of_a_load(alloc: Global) -> bool {
+    match load_script(alloc, 4, 3) {
+        Ok(text) => text.as_slice() == TEXT.as_bytes(),
+        Err(_) => false,
+    }
+}
+
 #[test]
-fn text_of_a_load(rt: HostRuntime) -> Result<(), Fail> {
-    let text = load_script(rt.alloc(), 4, 3)?;
-    assert_eq!(rt; text.as_slice(), TEXT.as_bytes());
-    Ok(())
+fn text_of_a_load(rt: HostRuntime) {
+    assert!(rt; is_text_of_a_load(rt.alloc()));
 }

@@ -1,8 +1,7 @@
 //! Scripts of several threads, by orders of their events, and cut behind an event.
-use split_tables::session_told;
-use std::alloc::{AllocError, Global};
+use crate::asserting::assert_sessions;
 use std::test::Fail;
-use test_kit::assert_rows;
+use test_kit::Text;
 
 const CUT: &str = "\
 # 64 lines of the log: the first mount raises its base from 1 to 65, an unmount by 64, and the last mount again. So a cut behind
@@ -59,40 +58,38 @@ step - T strict seed 1 = 2.0 mkdir /c = ok; 1.0 mkdir /b = ok; 0.0 mkdir /a = ok
 step - T strict seed 3 = 0.0 mkdir /a = ok; 2.0 mkdir /c = ok; 1.0 mkdir /b = ok; / dir; /a dir; /b dir; /c dir
 ";
 
-// A session with an order of so many numbers, each 1 and then 0 in the end, and what is told of it.
-fn long_order(alloc: Global, ones: u32, told: &str) -> Result<String, AllocError> {
-    let mut row =
-        "row long_order\nfile S thread; mkdir /a; thread; mkdir /b\nstep - S strict order ".to_string(
-            alloc,
-        )?;
+// Adds a session with an order of so many numbers, each 1 and then 0 in the end, and what is told of it.
+fn put_long_order(row: &mut Text, ones: u32, told: &str) {
+    row.put("row long_order\nfile S thread; mkdir /a; thread; mkdir /b\nstep - S strict order ");
     for _one in 0..ones {
-        row.push_str("1,")?;
+        row.put("1,");
     }
-    row.push_str("0 = ")?;
-    row.push_str(told)?;
-    row.push('\n')?;
-    Ok(row)
+    row.put("0 = ");
+    row.put(told);
+    row.put("\n");
+}
+
+// Asserts that it goes so.
+fn assert_long_order(rt: &HostRuntime, ones: u32, told: &str) -> Result<(), Fail> {
+    let mut row = Text::new(rt.alloc());
+    put_long_order(&mut row, ones, told);
+    assert_sessions(rt, row.as_str(), 1)
 }
 
 #[test]
 fn cut_behind_events(rt: HostRuntime) -> Result<(), Fail> {
-    assert_rows(&rt, CUT, 2, &session_told)?;
-    Ok(())
+    assert_sessions(&rt, CUT, 2)
 }
 
 #[test]
 fn words_of_orders(rt: HostRuntime) -> Result<(), Fail> {
-    assert_rows(&rt, WORDS, 1, &session_told)?;
-    Ok(())
+    assert_sessions(&rt, WORDS, 1)
 }
 
 // A list has 65,536 numbers at most.
 #[test]
 fn longest_order(rt: HostRuntime) -> Result<(), Fail> {
     let ran = "1.0 mkdir /b = ok; 0.0 mkdir /a = ok; / dir; /a dir; /b dir";
-    let longest = long_order(rt.alloc(), 65_535, ran)?;
-    assert_rows(&rt, longest.as_str(), 1, &session_told)?;
-    let longer = long_order(rt.alloc(), 65_536, "splitfs: usage")?;
-    assert_rows(&rt, longer.as_str(), 1, &session_told)?;
-    Ok(())
+    assert_long_order(&rt, 65_535, ran)?;
+    assert_long_order(&rt, 65_536, "splitfs: usage")
 }

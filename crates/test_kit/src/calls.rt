@@ -1,6 +1,6 @@
 //! Reads the calls of rows.
 use crate::faults::RowError;
-use crate::printed::spelled;
+use crate::texts::Text;
 use crate::threads::scripts_of;
 use posix_spec::{Call, Scripts, Who};
 use std::alloc::Global;
@@ -23,8 +23,15 @@ fn last_call(scripts: &mut Scripts) -> Option<Call> {
     list.calls.pop()
 }
 
-/// The call that a line of a row spells.
-pub fn read_call(alloc: Global, line: &str) -> Result<Call, RowError> {
-    let mut scripts = scripts_of(alloc, &spelled(alloc, line)?)?;
+// The last call of a script.
+fn call_of(alloc: Global, script: &str) -> Result<Call, RowError> {
+    let mut scripts = scripts_of(alloc, script)?;
     last_call(&mut scripts).ok_or(RowError::Misspelled)
+}
+
+/// The call that a line of a row spells, of which the last word may be data in parts.
+pub fn read_call(alloc: Global, line: &str) -> Result<Call, RowError> {
+    let mut text = Text::new(alloc);
+    text.put_words(line);
+    call_of(alloc, text.as_str())
 }

@@ -1,51 +1,75 @@
 //! Why a row of a table gave no answer.
 use outside::FileFault;
-use std::alloc::AllocError;
+use std::alloc::{AllocError, AllocFailed};
+use std::error::Error;
 use std::fmt;
-use thiserror::Error;
 
 /// Why a row of a table gave no answer.
-#[derive(Drop, Error)]
+#[derive(Clone, Copy)]
 pub enum RowError {
     /// No memory was left.
-    #[error(transparent)]
-    NoMemory(#[from(alloc)] AllocError),
+    NoMemory,
     /// A file in memory was not read or replaced.
-    #[error("a file is not there")]
-    File(#[from] FileFault),
+    File,
     /// A line of the table is not in its language, or asks for what is not there.
-    #[error("a line is misspelled")]
     Misspelled,
     /// A command was not done.
-    #[error("a script was not run")]
     NotRun,
-    /// Rows are not as they say: so many are, of so many.
-    #[error("{right} of {all} rows are ok")]
-    Differ {
-        /// How many rows went `ok`.
-        right: usize,
-        /// How many rows there are.
-        all: usize,
-    },
+    /// Rows did not go `ok`, or are not as many as they should be.
+    Differ,
     /// What a layer has is not what the plain model beside it has.
-    #[error("the layer has not what the model has")]
     Unlike,
     /// The power is lost, or a journal is damaged.
-    #[error("the power is lost")]
     PowerLost,
     /// The device breaks a rule.
-    #[error("the device breaks rule {rule} at place {place}")]
-    Damaged {
-        /// The number of the rule.
-        rule: u32,
-        /// The block, inode line, name line or file block that breaks it.
-        place: u64,
-    },
+    Damaged,
+}
+
+impl RowError {
+    /// What is told of it.
+    pub fn text(&self) -> &'static str {
+        match self {
+            RowError::NoMemory => "no memory is left",
+            RowError::File => "a file is not there",
+            RowError::Misspelled => "a line is misspelled",
+            RowError::NotRun => "a script was not run",
+            RowError::Differ => "not all rows are ok",
+            RowError::Unlike => "the layer has not what the model has",
+            RowError::PowerLost => "the power is lost",
+            RowError::Damaged => "the device breaks a rule",
+        }
+    }
+}
+
+impl fmt::Display for RowError {
+    fn fmt<W: fmt::Write>(&self, f: &mut fmt::Formatter<W>) -> fmt::Result {
+        f.write_str(self.text())
+    }
 }
 
 // It is shown as it is printed.
 impl fmt::Debug for RowError {
     fn fmt<W: fmt::Write>(&self, f: &mut fmt::Formatter<W>) -> fmt::Result {
-        fmt::Display::fmt(self, f)
+        f.write_str(self.text())
+    }
+}
+
+impl Error for RowError {}
+
+impl From<AllocError> for RowError {
+    fn from(_error: AllocError) -> RowError {
+        RowError::NoMemory
+    }
+}
+
+impl<T: Drop> From<AllocFailed<T>> for RowError {
+    fn from(_refused: AllocFailed<T>) -> RowError {
+        RowError::NoMemory
+    }
+}
+
+impl From<FileFault> for RowError {
+    fn from(_fault: FileFault) -> RowError {
+        RowError::File
     }
 }

@@ -1,7 +1,7 @@
 //! Tables, their rows and the lines of these.
 use crate::faults::RowError;
 use crate::texts::Text;
-use crate::unfolding::unfolded;
+use crate::unfolding::put_unfolded;
 use std::alloc::Global;
 
 /// A word of a line by its place, and no text past the last one.
@@ -42,17 +42,23 @@ pub fn asked(line: &str) -> Option<(&str, &str)> {
     }
 }
 
-// What is told of a row of a table.
-fn row_answer<F: Fn(Global, &str) -> Result<String, RowError>>(
+// Adds what is told of the lines of a row.
+fn put_told<F: Fn(Global, &str) -> Result<String, RowError>>(
+    text: &mut Text,
     alloc: Global,
-    table: &str,
-    row: &str,
+    lines: &Text,
     tell: &F,
-) -> Result<String, RowError>
+)
     requires { F.IsAlwaysCallable tell.now }
 {
-    let lines = unfolded(alloc, table, row)?;
-    tell(alloc, &lines)
+    if !lines.is_whole() {
+        text.put_fault(&RowError::Misspelled);
+        return;
+    }
+    match tell(alloc, lines.as_str()) {
+        Ok(told) => text.put(&told),
+        Err(fault) => text.put_fault(&fault),
+    }
 }
 
 // Adds the name of a row, and what is told of it; nothing of a part that is no row.
@@ -62,32 +68,17 @@ fn put_row<F: Fn(Global, &str) -> Result<String, RowError>>(
     table: &str,
     row: &str,
     tell: &F,
-) -> Result<(), RowError>
+)
     requires { F.IsAlwaysCallable tell.now }
 {
     if let Some(name) = option(row, "row") {
-        let told = row_answer(alloc, table, row, tell)?;
+        let mut lines = Text::new(alloc);
+        put_unfolded(&mut lines, alloc, table, row);
         text.put(name);
         text.put(": ");
-        text.put(&told);
+        put_told(text, alloc, &lines, tell);
         text.put("\n");
     }
-    Ok(())
-}
-
-// Adds how the rows of a table went.
-fn put_rows<F: Fn(Global, &str) -> Result<String, RowError>>(
-    text: &mut Text,
-    alloc: Global,
-    table: &str,
-    tell: &F,
-) -> Result<(), RowError>
-    requires { F.IsAlwaysCallable tell.now }
-{
-    for row in table.split("\n\n") {
-        put_row(text, alloc, table, row, tell)?;
-    }
-    Ok(())
 }
 
 /// How the rows of a table went: for each its name and what is told of it, on a line.
@@ -99,7 +90,9 @@ pub fn table_told<F: Fn(Global, &str) -> Result<String, RowError>>(
     requires { F.IsAlwaysCallable tell.now }
 {
     let mut text = Text::new(alloc);
-    put_rows(&mut text, alloc, table, tell)?;
+    for row in table.split("\n\n") {
+        put_row(&mut text, alloc, table, row, tell);
+    }
     text.end()
 }
 
@@ -131,5 +124,5 @@ pub fn assert_rows<R: Eprint + AllocGlobal, F: Fn(Global, &str) -> Result<String
         return Ok(());
     }
     let _ = rt.eprintln(told.as_str());
-    Err(RowError::Differ { right, all })
+    Err(RowError::Differ)
 }

@@ -1,7 +1,8 @@
 //! Texts that are put together, and how a row went by its answers.
 use crate::faults::RowError;
 use crate::tables::{asked, number};
-use std::alloc::{AllocError, Global};
+use std::alloc::Global;
+use std::str::from_utf8;
 
 /// A text that is put together part by part. Where memory is wanting, or a part is misspelled, it stays short, and `end` is an
 /// error.
@@ -26,6 +27,28 @@ impl Text {
     pub fn put(&mut self, part: &str) {
         if self.text.push_str(part).is_err() {
             self.is_short = true;
+        }
+    }
+
+    /// Adds a letter.
+    pub fn put_char(&mut self, letter: char) {
+        if self.text.push(letter).is_err() {
+            self.is_short = true;
+        }
+    }
+
+    /// Adds a text that is put together. Where that is not whole, neither is this one.
+    pub fn put_text(&mut self, part: &Text) {
+        self.put(part.text.as_str());
+        self.is_short = self.is_short || part.is_short;
+        self.is_misspelled = self.is_misspelled || part.is_misspelled;
+    }
+
+    /// Adds bytes that are a text.
+    pub fn put_bytes(&mut self, bytes: &[u8]) {
+        match from_utf8(bytes) {
+            Ok(part) => self.put(part),
+            Err(_) => self.is_misspelled = true,
         }
     }
 
@@ -78,9 +101,43 @@ impl Text {
         }
     }
 
+    /// Adds why there is no answer.
+    pub fn put_fault(&mut self, fault: &RowError) {
+        self.put(fault.text());
+    }
+
     /// Has `end` answer that a line is misspelled.
     pub fn misspell(&mut self) {
         self.is_misspelled = true;
+    }
+
+    /// Has `end` answer that memory was wanting.
+    pub fn fall_short(&mut self) {
+        self.is_short = true;
+    }
+
+    /// Whether it is whole: no part was misspelled or left out.
+    pub fn is_whole(&self) -> bool {
+        !self.is_misspelled && !self.is_short
+    }
+
+    /// Whether it is whole, and this text.
+    pub fn is(&self, text: &str) -> bool {
+        self.is_whole() && self.text.as_str() == text
+    }
+
+    /// Whether both are whole, and the same.
+    pub fn is_same(&self, other: &Text) -> bool {
+        other.is_whole() && self.is(other.text.as_str())
+    }
+
+    /// The text; none where it is not whole.
+    pub fn as_str(&self) -> &str {
+        if self.is_whole() {
+            self.text.as_str()
+        } else {
+            ""
+        }
     }
 
     /// The text.
@@ -94,7 +151,7 @@ impl Text {
             return Err(RowError::Misspelled);
         }
         if is_short {
-            return Err(RowError::NoMemory(AllocError));
+            return Err(RowError::NoMemory);
         }
         Ok(text)
     }
@@ -131,22 +188,4 @@ fn told(alloc: Global, difference: Option<(&str, &str)>) -> Result<String, RowEr
 /// How a row went by the answers to its lines, a line each: `ok`, or the first line that is answered otherwise.
 pub fn row_told(alloc: Global, row: &str, answers: &str) -> Result<String, RowError> {
     told(alloc, first_unlike(row, answers))
-}
-
-// The first line in which texts differ.
-fn first_difference<'a>(wanted: &'a str, came: &'a str) -> Option<(&'a str, &'a str)> {
-    let mut others = came.lines();
-    for line in wanted.lines() {
-        let other = others.next().unwrap_or("");
-        if other != line {
-            return Some((line, other));
-        }
-    }
-    let more = others.next()?;
-    Some(("", more))
-}
-
-/// How a text goes beside the one that is wanted: `ok`, or the first line in which they differ.
-pub fn text_told(alloc: Global, wanted: &str, came: &str) -> Result<String, RowError> {
-    told(alloc, first_difference(wanted, came))
 }

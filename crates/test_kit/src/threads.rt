@@ -9,13 +9,13 @@ use std::alloc::{AllocError, Global};
 pub fn scripts_of(alloc: Global, text: &str) -> Result<Scripts, RowError> {
     match read_script(alloc, text.as_bytes()) {
         Ok(scripts) => Ok(scripts),
-        Err(ScriptFault::NoMemory) => Err(RowError::NoMemory(AllocError)),
+        Err(ScriptFault::NoMemory) => Err(RowError::NoMemory),
         Err(ScriptFault::Bad { .. }) => Err(RowError::Misspelled),
     }
 }
 
-/// Who made the call of a printed line `CALLER.NUMBER CALL = REPLY`, and the number of that call among those of the caller.
-pub fn place_of(line: &str) -> Result<(Who, u32), RowError> {
+// Who made the call of a printed line `CALLER.NUMBER CALL = REPLY`, and the number of that call among those of the caller.
+fn place_of(line: &str) -> Result<(Who, u32), RowError> {
     let (name, rest) = line.split_once('.').ok_or(RowError::Misspelled)?;
     let number = small_number(word(rest, 0))?;
     if name == "s" {

@@ -1,5 +1,4 @@
 //! Lines of rows that stand for several: those of a name, and those of each of some words.
-use crate::faults::RowError;
 use crate::tables::{number, option};
 use crate::texts::Text;
 use std::alloc::Global;
@@ -49,71 +48,59 @@ fn put_done(text: &mut Text, table: &str, what: &str, word: &str) {
     }
 }
 
-// The digits of a number.
-fn digits(alloc: Global, number: u64) -> Result<String, RowError> {
-    let mut text = Text::new(alloc);
-    text.put_number(number);
-    text.end()
+// Adds what is done for a number.
+fn put_at(text: &mut Text, alloc: Global, table: &str, what: &str, number: u64) {
+    let mut digits = Text::new(alloc);
+    digits.put_number(number);
+    put_done(text, table, what, digits.as_str());
 }
 
 // Adds what is done for each number of a range.
-fn put_numbered(
-    text: &mut Text,
-    alloc: Global,
-    table: &str,
-    what: &str,
-    first: u64,
-    last: u64,
-) -> Result<(), RowError> {
+fn put_numbered(text: &mut Text, alloc: Global, table: &str, what: &str, first: &str, last: &str) {
+    let (Ok(first), Ok(last)) = (number(first), number(last)) else {
+        text.misspell();
+        return;
+    };
     for number in first..last.saturating_add(1) {
-        put_done(text, table, what, &digits(alloc, number)?);
+        put_at(text, alloc, table, what, number);
     }
-    Ok(())
 }
 
 // Adds what is done for each of some words, or for each number of `FIRST to LAST`.
-fn put_words(
-    text: &mut Text,
-    alloc: Global,
-    table: &str,
-    words: &str,
-    what: &str,
-) -> Result<(), RowError> {
-    if let Some((first, last)) = words.split_once(" to ") {
-        return put_numbered(text, alloc, table, what, number(first)?, number(last)?);
+fn put_each(text: &mut Text, alloc: Global, table: &str, words: &str, what: &str) {
+    match words.split_once(" to ") {
+        Some((first, last)) => put_numbered(text, alloc, table, what, first, last),
+        None => {
+            for word in words.split(' ') {
+                put_done(text, table, what, word);
+            }
+        }
     }
-    for word in words.split(' ') {
-        put_done(text, table, what, word);
-    }
-    Ok(())
 }
 
-// Adds `WORDS: WHAT`.
-fn put_each(text: &mut Text, alloc: Global, table: &str, rest: &str) -> Result<(), RowError> {
+// Adds what `WORDS: WHAT` stands for.
+fn put_for(text: &mut Text, alloc: Global, table: &str, rest: &str) {
     match rest.split_once(": ") {
-        Some((words, what)) => put_words(text, alloc, table, words, what),
-        None => Err(RowError::Misspelled),
+        Some((words, what)) => put_each(text, alloc, table, words, what),
+        None => text.misspell(),
     }
 }
 
 // Adds a line, or those that it stands for.
-fn put_unfolded(text: &mut Text, alloc: Global, table: &str, line: &str) -> Result<(), RowError> {
+fn put_one(text: &mut Text, alloc: Global, table: &str, line: &str) {
     match line.split_once(' ') {
         Some(("do", name)) => put_named(text, table, name, ""),
-        Some(("for", rest)) => return put_each(text, alloc, table, rest),
+        Some(("for", rest)) => put_for(text, alloc, table, rest),
         _ => {
             text.put(line);
             text.put("\n");
         }
     }
-    Ok(())
 }
 
-// The lines of a row of a table, with those that `do` and `for` stand for in their places.
-pub(crate) fn unfolded(alloc: Global, table: &str, row: &str) -> Result<String, RowError> {
-    let mut text = Text::new(alloc);
+// Adds the lines of a row of a table, with those that `do` and `for` stand for in their places.
+pub(crate) fn put_unfolded(text: &mut Text, alloc: Global, table: &str, row: &str) {
     for line in row.lines() {
-        put_unfolded(&mut text, alloc, table, line)?;
+        put_one(text, alloc, table, line);
     }
-    text.end()
 }

@@ -13,8 +13,7 @@ use posix_types::Mode;
 use split_machine::Crashed;
 use split_tables::answer;
 use std::alloc::{AllocError, Global};
-use std::str::from_utf8;
-use test_kit::{RowError, number, option, printed_lines, read_tree};
+use test_kit::{RowError, Text, number, option, put_lines, read_tree};
 
 // What the medium has, four simple choices and one that is drawn from a seed, each with the option that has its tree.
 const CHOICES: [(&str, Choice); 5] = [
@@ -41,16 +40,11 @@ pub(crate) fn mode_of(row: &str) -> Mode
     }
 }
 
-// What is put of the tree of an image among files.
-fn tree_in(alloc: Global, files: &mut MemFiles, image: &[u8]) -> Result<Vec<u8>, RowError> {
-    files.replace("I", image)?;
-    Ok(answer(alloc, files, &["tree", "I"])?)
-}
-
 // The tree of an image, as it is printed once the image was mounted.
-fn tree_told(alloc: Global, image: &[u8]) -> Result<Vec<u8>, RowError> {
+fn tree_told(alloc: Global, image: &[u8]) -> Text {
     let mut files = MemFiles::new(alloc, Vec::new(alloc), Vec::new(alloc));
-    tree_in(alloc, &mut files, image)
+    let _is_there = files.replace("I", image);
+    answer(alloc, &mut files, "tree I")
 }
 
 // Whether a mode permits a tree behind one to begin with.
@@ -62,45 +56,35 @@ fn is_judged(
     after: &Tree,
 ) -> Result<bool, RowError> {
     let shape = numbers()?.shape();
-    Ok(judge(
-        alloc,
-        mode,
-        shape,
-        start,
-        &left.history,
-        &left.unfinished,
-        after,
-    )?)
+    let (history, unfinished) = (&left.history, &left.unfinished);
+    Ok(judge(alloc, mode, shape, start, history, unfinished, after)?)
 }
 
-// Whether a mode permits a tree that is printed so.
-fn is_permitted(alloc: Global, mode: Mode, left: &Crashed, text: &str) -> Result<bool, RowError> {
-    let after = read_tree(alloc, text)?;
-    let start = root_alone(alloc)?;
-    is_judged(alloc, mode, left, &start, &after)
-}
-
-// Whether a row has this tree, if it has one.
-fn is_wanted(alloc: Global, row: &str, key: &str, text: &str) -> Result<bool, RowError> {
-    match option(row, key) {
-        Some(wanted) => Ok(printed_lines(alloc, wanted)?.as_str() == text),
-        None => Ok(true),
+// Whether a mode permits a tree.
+fn is_tree_permitted(alloc: Global, mode: Mode, left: &Crashed, after: &Tree) -> bool {
+    match root_alone(alloc) {
+        Ok(start) => is_judged(alloc, mode, left, &start, after).unwrap_or(false),
+        Err(_) => false,
     }
 }
 
-// Whether what is put of the image of a choice is a tree that the mode permits, and that of the row.
-fn is_right(
-    alloc: Global,
-    left: &Crashed,
-    row: &str,
-    key: &str,
-    put: &[u8],
-) -> Result<bool, RowError> {
-    match from_utf8(put) {
-        Ok(text) => Ok(
-            is_permitted(alloc, mode_of(row), left, text)? && is_wanted(alloc, row, key, text)?,
-        ),
-        Err(_) => Err(RowError::NotRun),
+// Whether a mode permits a tree that is printed so.
+fn is_permitted(alloc: Global, mode: Mode, left: &Crashed, text: &Text) -> bool {
+    match read_tree(alloc, text.as_str()) {
+        Ok(after) => text.is_whole() && is_tree_permitted(alloc, mode, left, &after),
+        Err(_) => false,
+    }
+}
+
+// Whether a row has this tree, if it has one.
+fn is_wanted(alloc: Global, row: &str, key: &str, text: &Text) -> bool {
+    let mut lines = Text::new(alloc);
+    match option(row, key) {
+        Some(wanted) => {
+            put_lines(&mut lines, wanted);
+            lines.is_same(text)
+        }
+        None => true,
     }
 }
 
@@ -129,37 +113,34 @@ fn image_of(alloc: Global, pm: &Pm, choice: Choice) -> Result<Vec<u8>, AllocErro
     pm.choose(alloc, choice)
 }
 
+// Whether what is put of an image is a tree that the mode permits, and that of the row.
+fn is_right(alloc: Global, left: &Crashed, row: &str, key: &str, image: &[u8]) -> bool {
+    let put = tree_told(alloc, image);
+    is_permitted(alloc, mode_of(row), left, &put) && is_wanted(alloc, row, key, &put)
+}
+
 // Whether a choice leaves what is right.
-fn is_left(
-    alloc: Global,
-    left: &Crashed,
-    row: &str,
-    key: &str,
-    choice: Choice,
-) -> Result<bool, RowError>
+fn is_left(alloc: Global, left: &Crashed, row: &str, key: &str, choice: Choice) -> bool
     requires { AllHome left.now.pm }
 {
-    let image = image_of(alloc, &left.pm, choice)?;
-    let put = tree_told(alloc, &image)?;
-    is_right(alloc, left, row, key, &put)
+    match image_of(alloc, &left.pm, choice) {
+        Ok(image) => is_right(alloc, left, row, key, &image),
+        Err(_) => false,
+    }
 }
 
 /// The option of which what a loss leaves is not as the row says, if there is one: how many calls returned and whose are unfinished
 /// (`left 3 0 1`), or the tree of a choice, which the row may name (`left-oldest / dir; ..`) and the mode has to permit.
-pub(crate) fn fault_left<'a>(
-    alloc: Global,
-    left: &Crashed,
-    row: &'a str,
-) -> Result<Option<&'a str>, RowError>
+pub(crate) fn fault_left(alloc: Global, left: &Crashed, row: &str) -> Option<&'static str>
     requires { AllHome left.now.pm }
 {
     if !are_callers(left, option(row, "left").unwrap_or("")) {
-        return Ok(Some("left"));
+        return Some("left");
     }
-    for (key, choice) in CHOICES {
-        if !is_left(alloc, left, row, key, choice)? {
-            return Ok(Some(key));
+    for (key, choice) in &CHOICES {
+        if !is_left(alloc, left, row, key, *choice) {
+            return Some(*key);
         }
     }
-    Ok(None)
+    None
 }

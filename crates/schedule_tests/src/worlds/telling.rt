@@ -14,7 +14,7 @@ use pm_lines::Power;
 use posix_types::Who;
 use split_machine::{Out, World};
 use std::alloc::Global;
-use test_kit::{RowError, asked, option, printed_lines, small_number};
+use test_kit::{RowError, Text, asked, option, put_lines, small_number};
 
 // The caller of a name: `s` for the set-up, or the number of a thread.
 fn caller(name: &str) -> Result<Who, RowError> {
@@ -134,7 +134,7 @@ fn fault_behind<'a>(
     requires { CanCrash world (seen out) }
 {
     let left = crashed(alloc, world, out)?;
-    fault_left(alloc, &left, row)
+    Ok(fault_left(alloc, &left, row))
 }
 
 // A World in which nothing has begun does the steps of a row, and is crashed.
@@ -152,18 +152,21 @@ fn fault_of<'a>(alloc: Global, world: World, row: &'a str) -> Result<Option<&'a 
     }
 }
 
-// The lines of the script of a row.
-fn script_of(alloc: Global, row: &str) -> Result<String, RowError> {
-    printed_lines(alloc, option(row, "script").unwrap_or(""))
+// The World of a script on an image of its own, in which nothing has begun.
+fn world_with(alloc: Global, row: &str, script: &str) -> Result<World, RowError>
+    ensures { IfOk result IsFirst }
+{
+    let image = mkfs(alloc, &numbers()?)?;
+    world_of(alloc, &image, mode_of(row), script.as_bytes())
 }
 
 // The World of a row, in which nothing has begun.
 fn first_world(alloc: Global, row: &str) -> Result<World, RowError>
     ensures { IfOk result IsFirst }
 {
-    let script = script_of(alloc, row)?;
-    let image = mkfs(alloc, &numbers()?)?;
-    world_of(alloc, &image, mode_of(row), script.as_bytes())
+    let mut script = Text::new(alloc);
+    put_lines(&mut script, option(row, "script").unwrap_or(""));
+    world_with(alloc, row, script.as_str())
 }
 
 /// How a row goes: `ok`, or what is wrong: the first line with another answer, or what is left otherwise. It has a `script`, with `; `
@@ -174,8 +177,14 @@ fn first_world(alloc: Global, row: &str) -> Result<World, RowError>
 /// found; and `mode sync` is of a row in sync mode.
 pub(crate) fn world_told(alloc: Global, row: &str) -> Result<String, RowError> {
     let world = first_world(alloc, row)?;
-    match fault_of(alloc, world, row)? {
-        Some(fault) => Ok(format!(in alloc; "otherwise: {fault}")?),
-        None => Ok("ok".to_string(alloc)?),
+    let fault = fault_of(alloc, world, row)?;
+    let mut told = Text::new(alloc);
+    match fault {
+        Some(fault) => {
+            told.put("otherwise: ");
+            told.put(fault);
+        }
+        None => told.put("ok"),
     }
+    told.end()
 }

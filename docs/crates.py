@@ -30,7 +30,7 @@ LAYERS: list[tuple[str, str]] = [
     ),
     (
         "The World as mathematics",
-        "world_model world_step_laws world_write_laws world_image_laws log_laws posix_mode_laws k_split_laws",
+        "world_model world_step_laws world_write_laws world_image_laws log_laws posix_mode_laws batch_laws k_split_laws",
     ),
     (
         "Data: what is staged, published and mounted",
@@ -47,7 +47,7 @@ LAYERS: list[tuple[str, str]] = [
         "schedule split_machine",
     ),
     ("The program", "script_text report_text split_cases outside command_line split_top splitfs"),
-    ("For threads: proved, and used by no command yet", "ruled_turn oplog_tail thread_laws"),
+    ("For threads: proved, and used by no command yet", "ruled_turn oplog_tail thread_laws split_threads"),
 ]
 TESTS = "Tests"
 OTHERS = "Others"

@@ -104,7 +104,8 @@ def try_seed(image: str, name: str, seed: int, said: argparse.Namespace) -> tupl
 def main() -> int:
     said = argparse.ArgumentParser(description=__doc__, formatter_class=argparse.RawDescriptionHelpFormatter)
     said.add_argument("--every", type=int, default=13, metavar="N", help="every how many steps the power goes; 13 where none is named")
-    said.add_argument("--seeds", type=int, default=40, metavar="N", help="how many seeds, from 1 on")
+    said.add_argument("--seeds", type=int, default=40, metavar="N", help="the last seed; 40 where none is named")
+    said.add_argument("--first", type=int, default=1, metavar="N", help="the first seed; 1 where none is named")
     said.add_argument("--jobs", type=int, default=os.cpu_count() or 1, metavar="N", help="how many runs at once")
     words = said.parse_args()
     with tempfile.TemporaryDirectory() as folder:
@@ -112,7 +113,7 @@ def main() -> int:
         with open(name, "w", encoding="utf-8") as file:
             file.write(script_text())
         run_built("mkfs", image, *IMAGE)
-        counts = [try_seed(image, name, seed, words) for seed in range(1, words.seeds + 1)]
+        counts = [try_seed(image, name, seed, words) for seed in range(words.first, words.seeds + 1)]
     bad = sum(it for _, it in counts)
     print(f"{bad} of {sum(it for it, _ in counts)} losses left what is not permitted")
     return 1 if bad else 0

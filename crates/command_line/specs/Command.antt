@@ -2,11 +2,12 @@
 --   mkfs IMAGE BLOCKS LOG INODES NAMES
 --   tree IMAGE
 --   step IMAGE SCRIPT MODE [order LIST | seed N] [cut E] [stop N] [again NUMBERS] [choose C] [keep NAME]
+--   run IMAGE SCRIPT MODE [stop N] [again NUMBERS] [choose C] [keep NAME]
 --   load N T MODE
 -- IMAGE is the name of a file, or `-` for the fresh default image, which `mkfs` does not make. MODE is `strict` or `sync`, those
 -- that are built. LIST is 1 to 65,536 numbers below 8 with commas between; a number has 1 to 18 digits. C is `oldest`, `newest`, `even`,
 -- `odd` or a number. A load has at most 500 calls for each of 1 to 8 threads.
-use Rattle.std.specs.Prelude.{ℕ, List, [], length, codes, ◌&&◌, ◌==◌, nat_le, slice_index_or, drop, if◌then◌else◌, Option, Some, None, option_and_then, option_map}
+use Rattle.std.specs.Prelude.{ℕ, Bool, true, false, List, [], length, codes, ◌&&◌, ◌==◌, nat_le, slice_index_or, drop, if◌then◌else◌, Option, Some, None, option_and_then, option_map}
 use Rattle.image_layout.specs.layout_model.Fields.{is_same}
 use Rattle.image_layout.specs.layout_model.Places.{Geometry, is_in_range}
 use Rattle.image_layout.specs.Numbers.{numbered}
@@ -20,11 +21,12 @@ pub data Image : Type 0 where
   Fresh : Image
   Stored : List ℕ → Image
 
--- The options of a run: its mode, the order in which its threads are picked, the events and the steps after which the power
+-- The options of a run: its mode, whether its threads are those of the machine, otherwise the order in which they are picked, the events and the steps after which the power
 -- goes, the steps of each mount behind it but the last, which candidates a power loss leaves, and the name under which the image
 -- that is left is kept.
 pub record Options : Type 0 where
   pub mode : Mode
+  pub by_threads : Bool
   pub order : Order
   pub cut : Option ℕ
   pub stop : Option ℕ
@@ -136,13 +138,21 @@ with_order options words =
 
 -- the options of a run that names none
 abbrev pub options_in : Mode → Options
-options_in mode = record { mode = mode; order = Round; cut = None; stop = None; again = []; choice = Choice.Oldest; keep = None }
+options_in mode = record { mode = mode; by_threads = false; order = Round; cut = None; stop = None; again = []; choice = Choice.Oldest; keep = None }
 
 unfoldable pub step_of : List (List ℕ) → Option Command
 step_of words =
     if nat_le 4 (length words) && is_same (word_at words 0) (codes "step")
     then option_map (λ options. Step (record { image = image_of (word_at words 1); script = word_at words 2; options = options }))
     (option_and_then (λ mode. with_order (options_in mode) (drop 4 words)) (mode_of (word_at words 3)))
+    else None
+
+-- a run by threads: it names neither an order nor an event
+unfoldable pub threads_of : List (List ℕ) → Option Command
+threads_of words =
+    if nat_le 4 (length words) && is_same (word_at words 0) (codes "run")
+    then option_map (λ options. Step (record { image = image_of (word_at words 1); script = word_at words 2; options = options }))
+    (option_and_then (λ mode. with_stop (record (options_in mode) { by_threads = true }) (drop 4 words)) (mode_of (word_at words 3)))
     else None
 
 unfoldable pub tree_of : List (List ℕ) → Option Command
@@ -190,4 +200,4 @@ or_else (Some command) other = Some command
 
 -- THE COMMAND THAT THE WORDS ARE
 unfoldable pub command_of : List (List ℕ) → Option Command
-command_of words = or_else (mkfs_of words) (or_else (tree_of words) (or_else (step_of words) (load_of words)))
+command_of words = or_else (mkfs_of words) (or_else (tree_of words) (or_else (step_of words) (or_else (threads_of words) (load_of words))))

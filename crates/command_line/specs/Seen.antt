@@ -23,6 +23,7 @@ abbrev pub seen_options : Options → meaning.Options
 seen_options options =
     record {
       mode = options.mode;
+      by_threads = options.by_threads;
       order = seen_order options.order;
       cut = options.cut;
       stop = options.stop;

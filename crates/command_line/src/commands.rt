@@ -2,7 +2,7 @@
 //!
 //! `read_command` answers the command that the words are, exactly where they are one (`command_of`, a definition over
 //! lists of bytes that reads like usage lines): `mkfs` with the name and the numbers of an image, `tree` with an image,
-//! `step` with an image, a script and its options, or `load` with its numbers and mode. The layer above may rely on nothing else: words that are no
+//! `step` or `run` with an image, a script and its options, or `load` with its numbers and mode. The layer above may rely on nothing else: words that are no
 //! command are none of any part.
 
 mod commands;

@@ -148,6 +148,26 @@ fn do_all(state: &mut State, items: &[Item]) -> Result<(), AllocError> {
     Ok(())
 }
 
+// Does the calls that an output has, in its order.
+fn add_history(
+    alloc: Global,
+    case: &mut Case,
+    state: &mut State,
+    output: &str,
+) -> Result<(), RowError> {
+    for (who, call) in read_history(alloc, &case.scripts, output)? {
+        add_call(alloc, case, state, who, call)?;
+    }
+    Ok(())
+}
+
+// Says what the model says of the calls that an output has, from this tree on.
+fn tell_history(alloc: Global, case: &mut Case, root: &Tree, output: &str) -> Result<(), RowError> {
+    add_tree(alloc, case, root)?;
+    let mut state = State::open(alloc, root, case.image.shape, case.mode)?;
+    add_history(alloc, case, &mut state, output)
+}
+
 // Says what the model says of the script, from this tree on.
 fn tell_from(alloc: Global, case: &mut Case, root: &Tree) -> Result<(), RowError> {
     add_tree(alloc, case, root)?;
@@ -227,6 +247,20 @@ impl Case {
         hold_memory(alloc)?;
         let mut case = begun(alloc, mode, numbers, script, order)?;
         tell(alloc, &mut case)?;
+        Ok(case)
+    }
+
+    /// Likewise a script of which a run had this output: the model does the calls that it has, in its order, which need not be all.
+    pub fn printed(
+        alloc: Global,
+        mode: &str,
+        numbers: &str,
+        script: &str,
+        output: &str,
+    ) -> Result<Case, RowError> {
+        let mut case = begun(alloc, mode, numbers, script, "")?;
+        let root = root_alone(alloc)?;
+        tell_history(alloc, &mut case, &root, output)?;
         Ok(case)
     }
 

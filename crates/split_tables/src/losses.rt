@@ -48,7 +48,18 @@ fn printed_at(alloc: Global, case: &Case, unit: Unit, count: u64, choice: &str) 
     printed(alloc, case, &options)
 }
 
-// How many calls that has, and the text behind them.
+// How many calls an output has, and the text behind them.
+fn outcome_of(alloc: Global, case: &Case, output: &Text) -> Outcome {
+    let mut rest = Text::new(alloc);
+    let (returned, behind) = front(case, output.as_str());
+    rest.put(behind);
+    if !output.is_whole() {
+        rest.misspell();
+    }
+    Outcome { returned, rest }
+}
+
+// Likewise of that which is printed where the power goes after so many steps or events.
 pub(crate) fn outcome_at(
     alloc: Global,
     case: &Case,
@@ -57,13 +68,7 @@ pub(crate) fn outcome_at(
     choice: &str,
 ) -> Outcome {
     let output = printed_at(alloc, case, unit, count, choice);
-    let mut rest = Text::new(alloc);
-    let (returned, behind) = front(case, output.as_str());
-    rest.put(behind);
-    if !output.is_whole() {
-        rest.misspell();
-    }
-    Outcome { returned, rest }
+    outcome_of(alloc, case, &output)
 }
 
 // A tree that is left after so many calls of a case.
@@ -198,6 +203,29 @@ fn is_judged(alloc: Global, case: &Case, found: &Outcome) -> bool {
 pub fn is_permitted(alloc: Global, case: &Case, steps: u64, choice: &str) -> bool {
     let found = outcome_at(alloc, case, Unit::Step, steps, choice);
     is_judged(alloc, case, &found)
+}
+
+/// Whether an output has the calls of a case as the model prints them, and behind them a tree that the mode permits.
+pub fn is_output_permitted(alloc: Global, case: &Case, output: &Text) -> bool {
+    let found = outcome_of(alloc, case, output);
+    found.returned == case.calls() && is_judged(alloc, case, &found)
+}
+
+// Whether no caller has a call more than those of a case.
+fn has_all_calls(alloc: Global, case: &Case) -> bool {
+    match case.next(alloc, case.calls()) {
+        Ok(next) => next.is_empty(),
+        Err(_) => false,
+    }
+}
+
+/// Whether an output has the calls of a case as the model prints them, these are all of its script, and behind them is the model's tree.
+pub fn is_output_whole(alloc: Global, case: &Case, output: &Text) -> bool {
+    let found = outcome_of(alloc, case, output);
+    found.rest.is_whole()
+        && found.returned == case.calls()
+        && case.has_tree(found.returned, &found.rest)
+        && has_all_calls(alloc, case)
 }
 
 /// How many calls are printed where the power goes behind so many events, and the tree, where the mode permits them.

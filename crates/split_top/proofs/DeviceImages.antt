@@ -1,5 +1,5 @@
 -- Each device is that of an image: of the bytes of its words.
-use Rattle.std.proofs.Common.{◌≡◌, ◌+◌, ◌*◌, ◌^◌, ◌<◌, ◌≤◌, ℕ, suc, zero, List, [], ◌++◌, length, refl, sym, ◌∙◌, ap, subst, arith, ⊎_elim}
+use Rattle.std.proofs.Common.{◌≡◌, ◌*◌, ◌^◌, ◌<◌, ◌≤◌, ℕ, suc, zero, List, [], ◌++◌, length, refl, sym, ◌∙◌, ap, arith, ⊎_elim}
 use Rattle.std.specs.Int.{to_le_bytes, w64}
 use Rattle.std.proofs.Math.Path.{fun_ext}
 use Rattle.std.proofs.lemmas.Bool.{cases_eq, cases_lt}

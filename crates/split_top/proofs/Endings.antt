@@ -1,6 +1,6 @@
 -- A run as a whole: what the machine says of it, and what was found on the device.
 use Rattle.std.proofs.Common.{◌≡◌, ◌≢◌, ◌⊎◌, ◌≤◌, ℕ, false, List, [], refl, sym, ◌∙◌, ap, subst, arith, inl, inr, Option, Some, None}
-use Rattle.std.specs.Prelude.{nat_lt, ◌++◌, ◌∷◌, IsSome}
+use Rattle.std.specs.Prelude.{nat_lt, IsSome}
 use Rattle.std.proofs.lemmas.Bool.{true≢false, ltb-false}
 use Rattle.command_line.specs.pm_model.declared.Cell.{Cell}
 use Rattle.command_line.specs.pm_model.Powers.{is_left, is_on, Supply}
@@ -25,7 +25,10 @@ use Rattle.split_machine.specs.course_laws.Runs as machine
 use Rattle.split_machine.specs.crash_spec.Schedules.{Reaches, Scheduled}
 use Rattle.split_machine.specs.world_view_laws.Views.{WorldView}
 use Rattle.split_machine.specs.world_image_laws.Starts.{has_setting}
-use Rattle.split_top.specs.Found.{IsLeftAs}
+use Rattle.split_machine.specs.Runs.{IsRunEnded}
+use Rattle.split_machine.specs.crash_spec.Orders.{Order}
+use Rattle.split_threads.specs.world_parts.declared.outcomes.Ended.{Ended}
+use Rattle.split_top.specs.Found.{IsEndedAs, IsLeftAs, IsReadBack}
 use Rattle.split_top.specs.Runs.{AreWithin, beginning, HasBegun, IsCut, IsRun, IsScheduled, IsStopped, IsWhole, KeepsStop, setting, Task}
 use Rattle.split_top.specs.Worlds.{IsWorldOn}
 use Rattle.split_top.proofs.Left.{left_as, left_with}
@@ -60,7 +63,7 @@ has_stop None before after start same off = absurd (never_off before after start
 has_stop (Some steps) before after start same off = refl
 
 -- Outside POSIX mode a run with nothing unfinished leaves just the tree of its history.
-one_tree : (mode : Mode) → mode ≢ Mode.Posix → (s : State) (history : List Item) (shown : List TreeEntry) → Permitted mode s history [] shown → shown ≡ tree (run s history)
+pub one_tree : (mode : Mode) → mode ≢ Mode.Posix → (s : State) (history : List Item) (shown : List TreeEntry) → Permitted mode s history [] shown → shown ≡ tree (run s history)
 one_tree Mode.Strict other s history shown permitted = Strict-idle s history shown permitted
 one_tree Mode.Sync other s history shown permitted = Sync-idle s history shown permitted
 one_tree Mode.Posix other s history shown permitted = absurd (other refl)
@@ -165,3 +168,28 @@ module _ (g : Geometry) (task : Task) (options : Options) (w : WorldView) (befor
   pub ran_lost : machine.IsPowerOff w options.order options.cut after history unfinished ⊎ machine.IsCut w options.order options.cut history unfinished → IsRun task options history unfinished left
   ran_lost (inl off) = ran_off off
   ran_lost (inr cut) = ran_cut cut
+
+-- ---- however it ended
+
+-- what it leaves of the device
+pub ended_left : (g : Geometry) (task : Task) (w : WorldView) (order : Order) (cut : Option ℕ) (before after : Supply) (ended : Ended) → IsWorldOn g task w
+    → IsRunEnded w order cut before after ended → IsEndedAs g w.start ended
+ended_left g task w order cut before after (Ended.Whole pm history) on is = left_as g task w before after pm history.items [] on is.ran
+ended_left g task w order cut before after (Ended.Lost crashed) on is = left_as g task w before after crashed.pm crashed.history.items crashed.unfinished.items on is.ran
+
+-- AND A RUN IT IS
+pub ran_ended : (g : Geometry) (task : Task) (options : Options) (w : WorldView) (before after : Supply) (ended : Ended) (history : List Item) (unfinished : List Unfinished) (left : List TreeEntry)
+    → IsWorldOn g task w → before ≡ record { given = options.stop; taken = 0 } → LeadsReaches → IsRunEnded w options.order options.cut before after ended
+    → IsReadBack g ended history unfinished left → IsRun task options history unfinished left
+ran_ended g task options w before after (Ended.Whole pm told) history unfinished left on power all is back =
+    let permits = λ (calls : List Unfinished) (found : IsLeftAs g pm w.start told.items calls).
+    subst (λ (h : List Item). Permitted w.start.mode w.start h calls left) back.calls.0 (back.permitted w.start calls found) in
+    subst (λ (h : List Item). IsRun task options h unfinished left) (sym back.calls.0)
+    (subst (λ (calls : List Unfinished). IsRun task options told.items calls left) (sym back.calls.1)
+    (ran_whole g task options w before after pm told.items [] left on power all is.ran permits is.complete refl is.events is.below is.scheduled))
+ran_ended g task options w before after (Ended.Lost crashed) history unfinished left on power all is back =
+    let permits = λ (calls : List Unfinished) (found : IsLeftAs g crashed.pm w.start crashed.history.items calls).
+    subst (λ (h : List Item). Permitted w.start.mode w.start h calls left) back.calls.0 (back.permitted w.start calls found) in
+    subst (λ (h : List Item). IsRun task options h unfinished left) (sym back.calls.0)
+    (subst (λ (calls : List Unfinished). IsRun task options crashed.history.items calls left) (sym back.calls.1)
+    (ran_lost g task options w before after crashed.pm crashed.history.items crashed.unfinished.items left on power all is.ran permits is.lost))

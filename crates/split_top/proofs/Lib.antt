@@ -13,5 +13,6 @@ pub mod RunEnds
 pub mod Runnable
 pub mod Shown
 pub mod Stepped
+pub mod ThreadEnds
 pub mod Told
 pub mod TrialLaws

@@ -1,9 +1,8 @@
 -- A load: its fresh image can be mounted, and its scripts can be run.
-use Rattle.std.proofs.Common.{◌≡◌, ◌≤◌, ◌*◌, ℕ, List, length, sym, ◌∙◌, ap, subst}
-use Rattle.command_line.specs.Command.{Loading, Options, options_in}
+use Rattle.std.proofs.Common.{◌≡◌, ◌≤◌, ℕ, List, length, sym, ◌∙◌, ap, subst}
+use Rattle.command_line.specs.Command.{Options}
 use Rattle.command_line.specs.pm_model.declared.Cell.{Cell}
 use Rattle.command_line.specs.pm_model.Images.{words_of}
-use Rattle.command_line.specs.pm_model.Words.{word_at}
 use Rattle.command_line.specs.layout_model.Places.{Geometry}
 use Rattle.command_line.specs.script_text.Laws.{ScriptsAreSpelled, ScriptsAreWithinLimits}
 use Rattle.posix_types.specs.Scripts.{Scripts}

@@ -1,6 +1,6 @@
 -- The devices behind a run, each mounted again: each can be mounted, and has the content of the first, so the tree that is found on
 -- the last one is permitted.
-use Rattle.std.proofs.Common.{◌≡◌, ◌*◌, ◌-◌, ◌<◌, ℕ, List, [], ◌∷◌, length, length-drop, get_or, take, drop, refl, sym, ◌∙◌, ap, subst, arith}
+use Rattle.std.proofs.Common.{◌≡◌, ◌*◌, ◌-◌, ◌<◌, ℕ, List, [], ◌∷◌, length, length-drop, get_or, take, drop, refl, sym, ◌∙◌, subst, arith}
 use Rattle.std.proofs.Math.Path.{fun_ext}
 use Rattle.std.proofs.lemmas.List.{take_all}
 use Rattle.command_line.specs.pm_model.declared.Cell.{Cell}

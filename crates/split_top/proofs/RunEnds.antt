@@ -1,10 +1,6 @@
 -- How a run may have ended, by what was asked for.
-use Rattle.std.proofs.Common.{◌≡◌, ◌⊎◌, ◌≤◌, ℕ, List, Option, None, Some, inl, inr, sym, ◌∙◌, subst}
-use Rattle.posix_types.specs.declared.item.Item.{Item}
-use Rattle.posix_types.specs.declared.tree.TreeEntry.{TreeEntry}
-use Rattle.command_line.specs.Command.{Options}
-use Rattle.command_line.specs.posix_spec.Run.{Unfinished}
-use Rattle.split_top.specs.Runs.{AreWithin, IsCut, IsRun, IsStopped, IsWhole, RunsAreCut, RunsAreWhole, Task}
+use Rattle.std.proofs.Common.{◌≡◌, ℕ, Option, None, Some, inl, inr, subst}
+use Rattle.split_top.specs.Runs.{AreWithin, RunsAreCut, RunsAreWhole, ThreadRunsAreWhole}
 
 none_some : {A : Type 0} (o : Option ℕ) (n : ℕ) → o ≡ None → o ≡ Some n → A
 none_some o n is other = (let f : ⊥ = cc (is, other) in absurd f)
@@ -24,4 +20,10 @@ runs-cut task options history unfinished left most cut stop is = elim is.ended [
   | inl whole ↦ inr (subst (λ (c : Option ℕ). AreWithin is.course.events c) cut is.course.within, whole)
   | inr (inl stopped) ↦ none_some options.stop stopped.steps stop stopped.given
   | inr (inr was_cut) ↦ inl (same_some options.cut most is.course.events cut was_cut.cut_is, was_cut.none_began)
+]
+
+pub thread-runs-whole : ThreadRunsAreWhole
+thread-runs-whole task options history unfinished left stop is = elim is.ended [
+  | inl whole ↦ whole
+  | inr stopped ↦ none_some options.stop stopped.steps stop stopped.given
 ]

@@ -6,7 +6,7 @@ use Rattle.command_line.specs.Command.{Command, command_of}
 use Rattle.command_line.specs.Seen.{seen}
 use Rattle.command_line.specs.declared.statuses.statuses.Status.{Status}
 use Rattle.split_top.specs.Jobs.{IsAnswer}
-use Rattle.split_top.specs.Top.{BreaksGrammar, BreaksRule, Completes, IsCutShort, IsDone, IsMissing, IsReplacedBy, MayFail, Replaces, Says}
+use Rattle.split_top.specs.Top.{BreaksGrammar, BreaksRule, Completes, IsCutShort, IsDone, IsMissing, IsReplacedBy, IsTold, MayFail, Replaces, Says}
 
 -- the command that was read
 pub command-is : (line : List (List ℕ)) (r : Option words.Command) (x : words.Command) → option_map (λ (c : words.Command). seen c) r ≡ command_of line → r ≡ Some x → command_of line ≡ Some (seen x)
@@ -44,3 +44,19 @@ module _ (line : List (List ℕ)) (c : Command) (is : command_of line ≡ Some c
   told-complete d other failed refused =
       let same : c ≡ d = cc (is, other) in
       subst (λ x. Completes x files status) same (a.complete failed refused)
+
+  -- ALL OF IT
+  pub is-told : IsTold line files left old new Missed Failed Refused status
+  is-told = record {
+    usage = told-usage;
+    no_such_file = told-missing;
+    bad_image = told-bad_image;
+    bad_script = told-bad_script;
+    read_fault = told-read_fault;
+    write_fault = told-write_fault;
+    done = told-done;
+    kept = told-files;
+    front = told-front;
+    nothing = a.nothing;
+    complete = told-complete;
+  }

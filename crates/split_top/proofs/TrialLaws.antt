@@ -1,5 +1,5 @@
 -- The image that mounts leave has the content of the one before, and a script that was run on an image is a trial of it.
-use Rattle.std.proofs.Common.{◌≡◌, ◌*◌, ℕ, List, None, length, sym, ◌∙◌, subst}
+use Rattle.std.proofs.Common.{◌≡◌, ℕ, false, List, None, sym, ◌∙◌, subst}
 use Rattle.command_line.specs.pm_model.declared.Cell.{Cell}
 use Rattle.command_line.specs.pm_model.Cells.{AllSingle}
 use Rattle.command_line.specs.pm_model.ImageLaws.{image-single}
@@ -51,7 +51,7 @@ module _ (before after : List ℕ) (first last : List Cell) (is_first : IsDevice
 
 -- a run on the device of an image
 pub is-trial : (image script : List ℕ) (options : Options) (history : List Item) (unfinished : List Unfinished) (left : List TreeEntry) (g : Geometry) (d : List Cell)
-    → IsDeviceOf image d → CanMount g d → bad_line script ≡ None → IsRanOn (words_of d) g (scripts_of script) options history unfinished left
+    → IsDeviceOf image d → CanMount g d → bad_line script ≡ None → IsRanOn false (words_of d) g (scripts_of script) options history unfinished left
     → IsTrial image script options history unfinished left
 is-trial image script options history unfinished left g d is mounts is_script ran = record {
   is_script = is_script;

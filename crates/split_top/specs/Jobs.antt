@@ -1,14 +1,20 @@
 -- What the parts of a job answer.
-use Rattle.std.specs.Prelude.{◌≡◌, ◌≢◌, ◌⊎◌, ⊤, ℕ, List, Option, Some}
+use Rattle.std.specs.Prelude.{◌≡◌, ◌≢◌, ◌⊎◌, ⊤, ℕ, false, List, Option, Some}
 use Rattle.outside.specs.Outside.{FileList}
 use Rattle.command_line.specs.script_text.Scripts.{bad_line}
 use Rattle.command_line.specs.Command.{Command}
+use Rattle.command_line.specs.declared.commands.commands.Command as words
 use Rattle.command_line.specs.declared.statuses.statuses.Status.{Status}
 use Rattle.command_line.specs.pm_model.declared.Cell.{Cell}
 use Rattle.split_top.specs.declared.opening.Opened.{Opened}
 use Rattle.split_top.specs.Devices.{CanMount, IsDeviceOf}
 use Rattle.split_top.specs.Images.{IsFreshImage, IsRefused}
 use Rattle.split_top.specs.Top.{BreaksGrammar, BreaksRule, Completes, IsCutShort, IsDone, IsMissing, IsRefusal, IsReplacedBy, Keeps, load_numbers, MayFail, Replaces}
+
+-- the command is no run by threads
+abbrev pub IsAlone : words.Command → Type 0
+IsAlone (words.Command.Step image script options) = options.by_threads ≡ false
+IsAlone command = ⊤
 
 -- a file was not read
 abbrev pub IsUnread : Status → Type 0

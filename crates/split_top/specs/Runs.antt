@@ -1,5 +1,5 @@
 -- What a run of scripts is: what it begins with, how it may end, and what it leaves.
-use Rattle.std.specs.Prelude.{◌≡◌, ◌≢◌, ◌⊎◌, ◌≤◌, ◌+◌, ◌++◌, ⊤, ℕ, List, [], ◌∷◌, length, IsSome, None, Option, Some}
+use Rattle.std.specs.Prelude.{◌≡◌, ◌≢◌, ◌⊎◌, ◌≤◌, ◌+◌, ◌*◌, ◌^◌, ⊤, ℕ, Bool, true, false, List, [], length, IsSome, None, Option, Some}
 use Rattle.posix_types.specs.declared.call.Mode.{Mode}
 use Rattle.posix_types.specs.declared.item.Item.{Item}
 use Rattle.posix_types.specs.declared.reply.Shape.{Shape}
@@ -101,7 +101,35 @@ pub record IsRun (task : Task) (options : Options) (history : List Item) (unfini
   pub ended : IsWhole task history unfinished left ⊎ (IsStopped task options history ⊎ IsCut options course.events course.calls unfinished)
   pub kept : task.mode ≢ Mode.Posix → (steps : ℕ) → options.stop ≡ Some steps → KeepsStop task history unfinished left steps
 
+-- ---- runs by threads of the machine
+-- A STOP WAS GIVEN, of no more steps than so many calls can take, whatever they are.
+pub record IsStoppedByThreads (options : Options) (history : List Item) : Type 0 where
+  pub steps : ℕ
+  pub given : options.stop ≡ Some steps
+  pub afforded : steps ≤ 2 ^ 31 * (length history + 2)
+
+-- A RUN BY THREADS: as of any run the history is legal and follows the scripts, the unfinished calls are next calls of theirs, and the mode
+-- permits the tree. It ended whole, or by a stop. Which of the histories it is, is the threads' choice.
+pub record IsThreadRun (task : Task) (options : Options) (history : List Item) (unfinished : List Unfinished)
+    (left : List TreeEntry) : Type 0 where
+  pub legal : IsLegal (beginning task) history
+  pub scripted : Scripted task.scripts history
+  pub open_calls : AreUnfinished task.scripts history unfinished
+  pub permitted : Permitted task.mode (beginning task) history unfinished left
+  pub ended : IsWhole task history unfinished left ⊎ IsStoppedByThreads options history
+
+-- A RUN, by events or by threads
+abbrev pub IsRunBy : Bool → Task → Options → List Item → List Unfinished → List TreeEntry → Type 0
+IsRunBy false task options history unfinished left = IsRun task options history unfinished left
+IsRunBy true task options history unfinished left = IsThreadRun task options history unfinished left
+
 -- ---- laws
+-- without a stop a run by threads is whole
+abbrev pub ThreadRunsAreWhole : Type 0
+ThreadRunsAreWhole =
+    (task : Task) (options : Options) (history : List Item) (unfinished : List Unfinished) (left : List TreeEntry) → options.stop ≡ None
+    → IsThreadRun task options history unfinished left → IsWhole task history unfinished left
+
 -- without a cut and a stop a run is whole
 abbrev pub RunsAreWhole : Type 0
 RunsAreWhole =

@@ -1,5 +1,5 @@
 -- What the statuses of the top call say.
-use Rattle.std.specs.Prelude.{◌≡◌, ◌⊎◌, ⊤, ℕ, List, ◌++◌, Option, Some, None, IsSome}
+use Rattle.std.specs.Prelude.{◌≡◌, ◌⊎◌, ◌↔◌, ⊤, ℕ, true, List, ◌++◌, Option, Some, None, IsSome}
 use Rattle.outside.specs.Outside.{FileList, AreOfFile, IsAbsent, IsReplaced, Takes, TakesFront, bytes_named}
 use Rattle.command_line.specs.pm_model.Words.{word_at}
 use Rattle.split_machine.specs.image_model.Rules.{geometry_of}
@@ -17,7 +17,7 @@ use Rattle.command_line.specs.image_layout.Numbers.{numbered}
 use Rattle.split_cases.specs.Load.{load_scripts}
 use Rattle.split_cases.specs.Summary.{summary_text}
 use Rattle.split_top.specs.Images.{AreOfImage, blocks_text, CanOpen, IsFreshImage, IsMade, IsMounted, IsRefused, IsTreeText, ShowsTree}
-use Rattle.split_top.specs.Runs.{IsRun, Task, task_on}
+use Rattle.split_top.specs.Runs.{IsRunBy, Task, task_on}
 use Rattle.command_line.specs.declared.statuses.statuses.Status.{Status}
 
 -- THE WORDS ARE A COMMAND of which this holds.
@@ -42,7 +42,7 @@ pub record IsOutcome (g : Geometry) (task : Task) (options : Options) (print : P
   pub history : List Item
   pub unfinished : List Unfinished
   pub left : List TreeEntry
-  pub is_run : IsRun task options history unfinished left
+  pub is_run : IsRunBy options.by_threads task options history unfinished left
   pub is_text : output ≡ print history left
   pub is_kept : IsMounted kept left
   pub numbers : geometry_of (word_at kept) ≡ g
@@ -76,7 +76,7 @@ abbrev pub Keeps : Option (List ℕ) → List ℕ → Option FileList → Option
 Keeps None kept old new = new ≡ old
 Keeps (Some name) kept old new = IsReplaced old new name kept
 
--- `step`: a run of the script on the image, which is kept where a name says so
+-- `step` and `run`: a run of the script on the image, which is kept where a name says so
 pub record IsStepDone (run : Run) (old new : Option FileList) (output : List ℕ) : Type 0 where
   pub kept : List ℕ
   pub stepped : IsStepped old run output kept
@@ -257,3 +257,24 @@ Completes (Mkfs name geometry) files status = IsDoneOrNot status
 Completes (Tree image) files status = (bytes : List ℕ) → IsGivenImage files image bytes → IsImageVerdict bytes status
 Completes (Step run) files status = CompletesStep run files status
 Completes (Load loading) files status = IsDoneOrNot status
+
+-- ---- all of this, of words
+-- the command is a run by threads
+abbrev pub IsByThreads : Command → Type 0
+IsByThreads (Step run) = run.options.by_threads ≡ true
+IsByThreads command = ⊥
+
+-- WHAT THE STATUS SAYS for these words: of the files before and after, of what the sink has before and after, and of three counts: whether
+-- that of missing files rose, that of failures of the files, and that of failures of the sink.
+pub record IsTold (words : List (List ℕ)) (files left : Option FileList) (old new : Option (List ℕ)) (Missed Failed Refused : Type 0) (status : Status) : Type 0 where
+  pub usage : (status ≡ Status.Usage) ↔ (command_of words ≡ None)
+  pub no_such_file : (name : List ℕ) → status ≡ Status.NoSuchFile name → Says words (λ c. IsMissing c files name) × Missed
+  pub bad_image : (rule place : ℕ) → status ≡ Status.BadImage rule place → Says words (λ c. BreaksRule c files rule place)
+  pub bad_script : (line : ℕ) → status ≡ Status.BadScript line → Says words (λ c. BreaksGrammar c files line)
+  pub read_fault : status ≡ Status.ReadFault → Says words (λ c. MayFail c files) × Failed
+  pub write_fault : status ≡ Status.WriteFault → Refused ⊎ Says words (λ c. Replaces c × Failed)
+  pub done : status ≡ Status.Done → Says words (λ c. IsDone c files left old new)
+  pub kept : (left ≡ files) ⊎ Says words (λ c. IsReplacedBy c files left)
+  pub front : (status ≡ Status.WriteFault) ⊎ (status ≡ Status.NoMemory) → ((left ≡ files) × (new ≡ old)) ⊎ Says words (λ c. IsCutShort c files left old new)
+  pub nothing : IsRefusal status → (left ≡ files) × (new ≡ old)
+  pub complete : (c : Command) → command_of words ≡ Some c → ¬ Failed → ¬ Refused → Completes c files status

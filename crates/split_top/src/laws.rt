@@ -1,5 +1,5 @@
 //! The laws that the bodies here rest on, so that a call of one is seen to be no deed; and those of what a run is.
-ghost use Rattle.split_top.specs.Runs.{RunsAreCut, RunsAreWhole};
+ghost use Rattle.split_top.specs.Runs.{RunsAreCut, RunsAreWhole, ThreadRunsAreWhole};
 
 pub(crate) use command_line::{scripts_are_spelled, scripts_are_within_limits};
 pub(crate) use split_cases::load_is_a_script;
@@ -13,4 +13,9 @@ pub fn runs_are_whole()
 /// A run with a cut and without a stop ran just so many events, and no call more had begun; or it is whole, by no more.
 pub fn runs_are_cut()
     ensures { RunsAreCut }
+{}
+
+/// A run by threads without a stop is whole.
+pub fn thread_runs_are_whole()
+    ensures { ThreadRunsAreWhole }
 {}

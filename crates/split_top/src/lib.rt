@@ -10,7 +10,8 @@
 //! all of it, and the tree is that of its content, which the World's promise permits: no mount changes the content,
 //! wherever its power goes.
 //!
-//! `top` takes any runtime, since it neither waits nor starts threads. `mkfs` makes image and line before
+//! `run` is run by threads of the machine (`split_threads`): `top` may start threads and wait, and then holds what it says if it
+//! returns; the other words stay in functions that do neither. `mkfs` makes image and line before
 //! it replaces the file. The output is put at once.
 #![tactic(auto)]
 
@@ -28,13 +29,15 @@ mod running;
 mod runs;
 mod showing;
 mod stepping;
+mod threads;
 mod trials;
 
 pub use command_line::{
     Call, Geometry, Item, Mode, Name, Path, Shape, State, Tree, TreeEntry, TreeNode, Who,
     default_shape, read_script, root_alone,
 };
-pub use laws::{runs_are_cut, runs_are_whole};
-pub use program::top;
+pub use laws::{runs_are_cut, runs_are_whole, thread_runs_are_whole};
+pub use program::{top, top_alone};
 pub use runs::Ran;
+pub use split_threads::{Gate, OpenGate};
 pub use trials::{remount_image, run_image};

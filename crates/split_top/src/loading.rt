@@ -1,5 +1,5 @@
 //! The command `load`: the scripts of a load are run on a fresh image, and the sums of the run are put.
-ghost use Rattle.std.specs.Prelude.{◌≡◌, ◌≢◌, List, ℕ, IfOk};
+ghost use Rattle.std.specs.Prelude.{◌≡◌, ◌≢◌, false, List, ℕ, IfOk};
 ghost use Rattle.outside.specs.Outside.{Rose};
 ghost use Rattle.command_line.specs.Command as commands;
 ghost use Rattle.command_line.specs.Seen.{IsBuiltLoad, seen_options};
@@ -54,6 +54,7 @@ fn sums_of(
     requires mounts { CanMount opened.geometry opened.pm }
     requires limits { AreInLimits scripts }
     requires mode { options.now.mode ≢ Mode.Posix }
+    requires events { options.now.by_threads ≡ false }
     ensures { IfOk result (λ text. (image : List ℕ) → IsDeviceOf image opened.pm
         → (kept : List ℕ) × IsRunOn image opened.geometry scripts (seen_options options.now) summary_text text.items kept) }
 {

@@ -1,5 +1,5 @@
-//! A script is read, run on an image, and told.
-ghost use Rattle.std.specs.Prelude.{◌≡◌, ◌≢◌, List, ℕ, None, IfErr, IfOk};
+//! A script is read, run on an image by events, and told.
+ghost use Rattle.std.specs.Prelude.{◌≡◌, ◌≢◌, false, List, ℕ, None, IfErr, IfOk};
 ghost use Rattle.command_line.specs.pm_model.Cells.{AllSingle};
 ghost use Rattle.command_line.specs.script_text.Scripts.{bad_line};
 ghost use Rattle.command_line.specs.Seen.{seen_options};
@@ -36,6 +36,7 @@ fn outcome_of(
     requires mounts { CanMount opened.geometry opened.pm }
     requires limits { AreInLimits scripts }
     requires mode { options.now.mode ≢ Mode.Posix }
+    requires events { options.now.by_threads ≡ false }
     ensures single { IfOk result (λ o. AllSingle o.pm) }
     ensures ran { IfOk result (λ o. (image : List ℕ) → IsDeviceOf image opened.pm
         → (kept : List ℕ) → IsDeviceOf kept o.pm
@@ -57,6 +58,7 @@ pub(crate) fn run_script(
 ) -> Result<Outcome, Status>
     requires mounts { CanMount opened.geometry opened.pm }
     requires mode { options.now.mode ≢ Mode.Posix }
+    requires events { options.now.by_threads ≡ false }
     ensures script { IfOk result (λ o. bad_line bytes.now ≡ None) }
     ensures single { IfOk result (λ o. AllSingle o.pm) }
     ensures outcome { IfOk result (λ o. (image : List ℕ) → IsDeviceOf image opened.pm

@@ -1,5 +1,5 @@
 //! A run of scripts: their calls in a World on an image, and what is read back of it.
-ghost use Rattle.std.specs.Prelude.{◌≡◌, ◌≢◌, List, ℕ, IfOk};
+ghost use Rattle.std.specs.Prelude.{◌≡◌, ◌≢◌, false, List, ℕ, IfOk};
 ghost use Rattle.command_line.specs.pm_model.Cells.{AllSingle};
 ghost use Rattle.command_line.specs.pm_model.Images.{words_of};
 ghost use Rattle.command_line.specs.pm_model.Words.{word_at};
@@ -10,7 +10,7 @@ ghost use Rattle.command_line.specs.posix_spec.Run.{Unfinished};
 ghost use Rattle.command_line.specs.posix_spec.State.{State};
 ghost use Rattle.posix_types.specs.declared.item.Item as items;
 ghost use Rattle.split_top.specs.Devices.{CanMount, IsDeviceOf};
-ghost use Rattle.split_top.specs.Found.{IsFoundBy, IsLeftAs};
+ghost use Rattle.split_top.specs.Found.{IsEndedAs, IsFoundBy, IsLeftAs, IsReadBack};
 ghost use Rattle.split_top.specs.Images.{IsMounted};
 ghost use Rattle.split_top.specs.Runs.{IsRun, Task};
 ghost use Rattle.split_machine.specs.world_view_laws.Starts.{AreInLimits};
@@ -24,6 +24,7 @@ use command_line::{Geometry, Options, read_order};
 use pm_lines::{Pm, Power};
 use posix_types::{Call, Item, Mode, Scripts, Tree, Who};
 use split_machine::{Ended, MountFault, NoMemory, World, run as run_scripts};
+use split_threads::power_for;
 use std::alloc::{AllocError, Global};
 
 /// What a run leaves: the calls that returned, those that had begun and did not, the tree that is found afterwards, and the
@@ -43,18 +44,13 @@ struct Left {
     pm: Pm,
 }
 
-/// The power of a run: for so many steps, or always.
-fn power_for(stop: Option<u64>) -> Power
-    ensures { result ≡ record { given = stop; taken = 0 } }
-{
-    match stop {
-        Some(steps) => Power::after(steps),
-        None => Power::always(),
-    }
-}
-
 /// The World of scripts on the device of an image.
-fn world_on(alloc: Global, opened: Opened, scripts: Scripts, mode: Mode) -> Result<World, NoMemory>
+pub(crate) fn world_on(
+    alloc: Global,
+    opened: Opened,
+    scripts: Scripts,
+    mode: Mode,
+) -> Result<World, NoMemory>
     requires mounts { CanMount opened.geometry opened.pm }
     requires limits { AreInLimits scripts }
     requires mode { mode ≢ Mode.Posix }
@@ -94,24 +90,20 @@ fn left_on(
     })
 }
 
-/// Runs a World in which nothing has begun, on a device with these numbers, and reads back what is left.
-fn run_world(
+/// What is read back of a run that ended on a device with these numbers.
+pub(crate) fn read_back(
     alloc: Global,
-    world: World,
+    ended: Ended,
     geometry: Geometry,
     options: &Options<'_>,
-) -> Result<Ran, NoMemory>
-    requires { (task : Task) × IsWorldOn geometry task world }
-    ensures ran { IfOk result (λ ran. (task : Task) → IsWorldOn geometry task world
-        → IsRun task (seen_options options.now) ran.history.items ran.unfinished.items ran.tree) }
+) -> Result<Ran, AllocError>
+    requires { (start : State) × IsEndedAs geometry start ended }
+    ensures back { IfOk result (λ ran. IsReadBack geometry ended ran.history.items ran.unfinished.items ran.tree) }
     ensures single { IfOk result (λ ran. AllSingle ran.pm) }
     ensures mounted { IfOk result (λ ran. (kept : List ℕ) → IsDeviceOf kept ran.pm → IsMounted kept ran.tree) }
     ensures numbers { IfOk result (λ ran. (kept : List ℕ) → IsDeviceOf kept ran.pm → geometry_of (word_at kept) ≡ geometry) }
 {
-    laws::a_round_goes_beside();
-    let order = read_order(alloc, &options.order)?;
-    let mut power = power_for(options.stop);
-    match run_scripts(alloc, world, order, options.cut, &mut power)? {
+    match ended {
         Ended::Whole { pm, history } => {
             let left = left_on(alloc, &pm, &geometry, options)?;
             Ok(Ran {
@@ -133,6 +125,27 @@ fn run_world(
     }
 }
 
+/// Runs a World in which nothing has begun, on a device with these numbers, and reads back what is left.
+fn run_world(
+    alloc: Global,
+    world: World,
+    geometry: Geometry,
+    options: &Options<'_>,
+) -> Result<Ran, NoMemory>
+    requires { (task : Task) × IsWorldOn geometry task world }
+    ensures ran { IfOk result (λ ran. (task : Task) → IsWorldOn geometry task world
+        → IsRun task (seen_options options.now) ran.history.items ran.unfinished.items ran.tree) }
+    ensures single { IfOk result (λ ran. AllSingle ran.pm) }
+    ensures mounted { IfOk result (λ ran. (kept : List ℕ) → IsDeviceOf kept ran.pm → IsMounted kept ran.tree) }
+    ensures numbers { IfOk result (λ ran. (kept : List ℕ) → IsDeviceOf kept ran.pm → geometry_of (word_at kept) ≡ geometry) }
+{
+    laws::a_round_goes_beside();
+    let order = read_order(alloc, &options.order)?;
+    let mut power = power_for(options.stop);
+    let ended = run_scripts(alloc, world, order, options.cut, &mut power)?;
+    Ok(read_back(alloc, ended, geometry, options)?)
+}
+
 /// Runs scripts on the device of an image, and reads back what is left.
 pub(crate) fn run(
     alloc: Global,
@@ -144,7 +157,7 @@ pub(crate) fn run(
     requires limits { AreInLimits scripts }
     requires mode { options.now.mode ≢ Mode.Posix }
     ensures ran { IfOk result (λ ran.
-        IsRanOn (words_of opened.pm) opened.geometry scripts (seen_options options.now) ran.history.items ran.unfinished.items ran.tree) }
+        IsRanOn false (words_of opened.pm) opened.geometry scripts (seen_options options.now) ran.history.items ran.unfinished.items ran.tree) }
     ensures single { IfOk result (λ ran. AllSingle ran.pm) }
     ensures mounted { IfOk result (λ ran. (kept : List ℕ) → IsDeviceOf kept ran.pm → IsMounted kept ran.tree) }
     ensures numbers { IfOk result (λ ran. (kept : List ℕ) → IsDeviceOf kept ran.pm

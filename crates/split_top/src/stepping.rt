@@ -1,6 +1,6 @@
 //! The command `step`: a script is read and run on an image; the image that is left is kept where a name says so, and the
 //! history and the tree that is left are put.
-ghost use Rattle.std.specs.Prelude.{◌≡◌, ◌≢◌, List, ℕ, Err, IfErr, IsSome, OnErr, OnOk};
+ghost use Rattle.std.specs.Prelude.{◌≡◌, ◌≢◌, false, List, ℕ, Err, IfErr, IsSome, OnErr, OnOk};
 ghost use Rattle.outside.specs.Outside.{Rose};
 ghost use Rattle.command_line.specs.pm_model.Cells.{AllSingle};
 ghost use Rattle.command_line.specs.Command as commands;
@@ -49,7 +49,7 @@ fn keep_image<F: Files>(
 }
 
 /// Keeps the image that a run left where a name says so, and then puts the output.
-fn finish<F: Files, K: Sink>(
+pub(crate) fn finish<F: Files, K: Sink>(
     alloc: Global,
     options: &Options<'_>,
     outcome: &Outcome,
@@ -80,6 +80,7 @@ fn run_on<F: Files, K: Sink>(
 ) -> Status
     requires mounts { CanMount opened.geometry opened.pm }
     requires mode { options.now.mode ≢ Mode.Posix }
+    requires events { options.now.by_threads ≡ false }
     ensures { (named : commands.Image) (image : List ℕ) → AreOfImage (F.told files.old) named image
         → IsDeviceOf image opened.pm
         → IsAnswer (commands.Step (record { image = named; script = script.now; options = seen_options options.now })) (F.told files.old) (F.told files.new) (K.told out.old) (K.told out.new) (Rose (F.misses files.old) (F.misses files.new)) (Rose (F.faults files.old) (F.faults files.new)) (Rose (K.faults out.old) (K.faults out.new)) result }
@@ -103,7 +104,8 @@ pub(crate) fn run_step<F: Files, K: Sink>(
     files: &mut F,
     out: &mut K,
 ) -> Status
-    requires { options.now.mode ≢ Mode.Posix }
+    requires mode { options.now.mode ≢ Mode.Posix }
+    requires events { options.now.by_threads ≡ false }
     ensures { IsAnswer (commands.Step (record { image = seen_image image.now; script = script.now; options = seen_options options.now })) (F.told files.old) (F.told files.new) (K.told out.old) (K.told out.new) (Rose (F.misses files.old) (F.misses files.new)) (Rose (F.faults files.old) (F.faults files.new)) (Rose (K.faults out.old) (K.faults out.new)) result }
 {
     let bytes = match read_image(alloc, image, files) {

@@ -1,6 +1,6 @@
 //! What is done with the bytes of an image, without files: a script is run on it, or it is mounted again. Tests look through these at
 //! what no command prints: the calls that a loss leaves unfinished, and what is left of an image in the midst of a mount.
-ghost use Rattle.std.specs.Prelude.{◌≡◌, ◌≢◌, None, List, ℕ, IfErr, IfOk};
+ghost use Rattle.std.specs.Prelude.{◌≡◌, ◌≢◌, false, None, List, ℕ, IfErr, IfOk};
 ghost use Rattle.command_line.specs.pm_model.Images.{words_of};
 ghost use Rattle.command_line.specs.script_text.Scripts.{bad_line, scripts_of};
 ghost use Rattle.command_line.specs.Seen.{seen_options};
@@ -29,7 +29,7 @@ fn ran_on(
     requires mounts { CanMount opened.geometry opened.pm }
     requires mode { options.now.mode ≢ Mode.Posix }
     ensures script { IfOk result (λ ran. bad_line script.now ≡ None) }
-    ensures ran { IfOk result (λ ran. IsRanOn (words_of opened.pm) opened.geometry (scripts_of script.now) (seen_options options.now) ran.history.items ran.unfinished.items ran.tree) }
+    ensures ran { IfOk result (λ ran. IsRanOn false (words_of opened.pm) opened.geometry (scripts_of script.now) (seen_options options.now) ran.history.items ran.unfinished.items ran.tree) }
     ensures kind { IfErr result (λ status. IsUnrun script.now status) }
 {
     laws::scripts_are_spelled();
@@ -52,7 +52,8 @@ pub fn run_image(
     script: &[u8],
     options: &Options<'_>,
 ) -> Result<Ran, Status>
-    requires { options.now.mode ≢ Mode.Posix }
+    requires mode { options.now.mode ≢ Mode.Posix }
+    requires events { options.now.by_threads ≡ false }
     ensures ran { IfOk result (λ ran. IsTrial image.items script.now (seen_options options.now) ran.history.items ran.unfinished.items ran.tree) }
     ensures kind { IfErr result (IsUntried image.items script.now) }
 {

@@ -6,9 +6,11 @@ ghost use Rattle.command_line.specs.Statuses as meaning;
 
 use command_line::{Status, exit_number, status_text};
 use outside::{DiskFiles, OutSink};
-use split_top::top;
+use split_top::{OpenGate, top};
 use std::io::{ErrorKind, Write};
 use std::process::ExitCode;
+use std::sync::Wait;
+use std::thread::Threads;
 use std::{env, io};
 
 /// The words after the program's name. An error of the kind `OutOfMemory` says that memory ran out, and any other one
@@ -21,12 +23,19 @@ fn words(rt: &HostRuntime) -> io::Result<Vec<String>> {
     Ok(words)
 }
 
-/// Does the job.
-fn job(rt: &HostRuntime) -> io::Result<Status> {
+/// Does the job, with leave to start threads and to wait.
+fn job<R: Threads + Wait + Sync>(rt: &HostRuntime, threads: &R) -> io::Result<Status> {
     let words = words(rt)?;
     let mut files = DiskFiles::new(rt.clone()?);
     let mut out = OutSink::new(rt.stdout());
-    Ok(top(rt, rt.alloc(), &words, &mut files, &mut out))
+    Ok(top(
+        threads,
+        rt.alloc(),
+        &words,
+        &mut files,
+        &mut out,
+        &OpenGate {},
+    ))
 }
 
 /// The status where the words were not read: a word that is not UTF-8 is no word of a command.
@@ -56,7 +65,7 @@ fn end(rt: &HostRuntime, status: &Status) -> u8
 }
 
 fn main(rt: HostRuntime) -> ExitCode {
-    let status = match job(&rt) {
+    let status = match job(&rt, &rt) {
         Ok(status) => status,
         Err(error) => unread(error.kind()),
     };

@@ -1,11 +1,11 @@
 //! The words of the command line.
 ghost use Rattle.std.specs.Prelude.{◌≡◌, ◌≤◌, IfSome, map, option_map};
 ghost use Rattle.std.specs.String.{string_bytes};
-ghost use Rattle.command_line.specs.Command.{command_of, image_of, load_of, mkfs_of, number_within, step_of, tree_of};
+ghost use Rattle.command_line.specs.Command.{command_of, image_of, load_of, mkfs_of, number_within, step_of, threads_of, tree_of};
 ghost use Rattle.command_line.specs.Seen.{IsBuilt, seen, seen_image};
 
 use crate::commands::geometries::read_geometry;
-use crate::commands::options::{Options, read_mode, read_options};
+use crate::commands::options::{Options, read_mode, read_options, read_thread_options};
 use image_layout::Geometry;
 use script_text::{Mode, read_number};
 
@@ -28,7 +28,7 @@ pub enum Command<'a> {
     },
     /// Print the tree of an image.
     Tree(Image<'a>),
-    /// Run a script on an image.
+    /// Run a script on an image, by events or by threads of the machine.
     Step {
         image: Image<'a>,
         script: &'a String,
@@ -104,6 +104,24 @@ fn read_step(words: &[String]) -> Option<Command<'_>>
     })
 }
 
+/// The words `run IMAGE SCRIPT MODE` and options.
+#[tactic(auto, unfolding(crate::specs::Command::threads_of))]
+fn read_threads(words: &[String]) -> Option<Command<'_>>
+    ensures command { option_map (λ c. seen c) result ≡ threads_of (map string_bytes words.now) }
+    ensures built { IfSome result IsBuilt }
+{
+    if words.len() < 4 || words[0].as_str() != "run" {
+        return None;
+    }
+    let mode = read_mode(words[3].as_str())?;
+    let options = read_thread_options(mode, &words[4..])?;
+    Some(Command::Step {
+        image: read_image(&words[1]),
+        script: &words[2],
+        options,
+    })
+}
+
 /// The number that a word spells, where it lies between two.
 fn read_within(word: &str, low: u32, high: u32) -> Option<u32>
     ensures number { result ≡ number_within low high word.now }
@@ -148,6 +166,9 @@ pub fn read_command(words: &[String]) -> Option<Command<'_>>
         return Some(command);
     }
     if let Some(command) = read_step(words) {
+        return Some(command);
+    }
+    if let Some(command) = read_threads(words) {
         return Some(command);
     }
     read_load(words)

@@ -1,5 +1,5 @@
 //! The options of a run.
-ghost use Rattle.std.specs.Prelude.{◌≡◌, ◌≢◌, IfOk, IfSome, map, option_map};
+ghost use Rattle.std.specs.Prelude.{◌≡◌, ◌≢◌, true, false, IfOk, IfSome, map, option_map};
 ghost use Rattle.std.specs.String.{string_bytes};
 ghost use Rattle.command_line.specs.Command.{choice_of, mode_of, options_in, with_again, with_choice, with_cut, with_keep, with_order, with_seed, with_stop};
 ghost use Rattle.command_line.specs.Seen.{seen_options};
@@ -26,7 +26,9 @@ const HIGHEST_NUMBER: u64 = 999_999_999_999_999_999;
 pub struct Options<'a> {
     /// What a power loss may leave.
     pub mode: Mode,
-    /// In which order the threads of the script are picked.
+    /// Whether the threads of the script are those of the machine.
+    pub by_threads: bool,
+    /// Otherwise, in which order the threads of the script are picked.
     pub order: OrderWords<'a>,
     /// After how many events the power goes.
     pub cut: Option<u64>,
@@ -171,9 +173,11 @@ fn with_order<'a>(options: Options<'a>, words: &'a [String]) -> Option<Options<'
 pub fn plain_options(mode: Mode) -> Options<'static>
     ensures options { seen_options result ≡ options_in mode }
     ensures mode { result.mode ≡ mode }
+    ensures events { result.by_threads ≡ false }
 {
     Options {
         mode,
+        by_threads: false,
         order: OrderWords::Round,
         cut: None,
         stop: None,
@@ -189,6 +193,18 @@ pub(crate) fn read_options(mode: Mode, words: &[String]) -> Option<Options<'_>>
     ensures mode { IfSome result (λ o. o.mode ≡ mode) }
 {
     with_order(plain_options(mode), words)
+}
+
+/// The options of a run by threads in a mode that the words are: neither an order nor `cut`.
+pub(crate) fn read_thread_options(mode: Mode, words: &[String]) -> Option<Options<'_>>
+    ensures options { option_map (λ o. seen_options o) result ≡ with_stop (record (options_in mode) { by_threads = true }) (map string_bytes words.now) }
+    ensures mode { IfSome result (λ o. o.mode ≡ mode) }
+{
+    let options = Options {
+        by_threads: true,
+        ..plain_options(mode)
+    };
+    with_stop(options, words)
 }
 
 /// The steps of each mount behind a run but the last.

@@ -1,4 +1,4 @@
-use Rattle.std.proofs.Common.{sym, subst}
+use Rattle.std.proofs.Common.{subst}
 use Rattle.split_top.specs.Images.{IsFreshImage}
 use Rattle.split_top.proofs.Loads.{fresh-mounts}
 use Rattle.split_top.proofs.loading.fresh_device.Goals as goal

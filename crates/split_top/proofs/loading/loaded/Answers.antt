@@ -1,6 +1,4 @@
-use Rattle.std.proofs.Common.{◌∙◌, ap, sym, subst}
-use Rattle.command_line.specs.Command.{options_in}
-use Rattle.split_cases.specs.Load.{load_scripts}
+use Rattle.std.proofs.Common.{sym, subst}
 use Rattle.split_machine.specs.world_view_laws.Starts.{AreInLimits}
 use Rattle.split_top.specs.Top.{load_numbers}
 use Rattle.split_top.proofs.Loads.{load-runs, same-run}

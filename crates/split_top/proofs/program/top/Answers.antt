@@ -49,5 +49,5 @@ returns-clause-read_fault g c =
 pub returns-clause-nothing : goal.returns-clause-nothing
 returns-clause-nothing g c = c.do_command.ensures.nothing
 
-pub do_command-requires : goal.do_command-requires
-do_command-requires g c = subst (λ (r : Option words.Command). IfSome r IsBuilt) c.in-Some.is c.read_command.ensures.built
+pub do_command-requires-clause-built : goal.do_command-requires-clause-built
+do_command-requires-clause-built g c κs within = subst (λ (r : Option words.Command). IfSome r IsBuilt) c.in-Some.is c.read_command.ensures.built

@@ -1,4 +1,4 @@
-use Rattle.std.proofs.Common.{subst, sym}
+use Rattle.std.proofs.Common.{false, subst, sym}
 use Rattle.command_line.specs.pm_model.Images.{words_of}
 use Rattle.command_line.specs.Seen.{seen_options}
 use Rattle.split_machine.specs.world_view_laws.Starts.{AreInLimits}
@@ -14,4 +14,4 @@ run-requires-clause-limits c =
 pub returns-in-Ok-run-clause-ran : goal.returns-in-Ok-run-clause-ran
 returns-in-Ok-run-clause-ran c =
     let ran = c.in-Ok-run.ran in
-    subst (λ s. IsRanOn (words_of c.args.opened.pm) c.args.opened.geometry s (seen_options c.args.options.now) ran.history.items ran.unfinished.items ran.tree) c.in-Ok.ensures.ok c.in-Ok-run.ensures.ran
+    subst (λ s. IsRanOn false (words_of c.args.opened.pm) c.args.opened.geometry s (seen_options c.args.options.now) ran.history.items ran.unfinished.items ran.tree) c.in-Ok.ensures.ok c.in-Ok-run.ensures.ran

@@ -46,8 +46,8 @@ LAYERS: list[tuple[str, str]] = [
         "world_view_laws call_laws round_laws run_laws event_laws course_laws progress_laws world_parts world_begins world_rounds split_world "
         "schedule split_machine",
     ),
+    ("Runs by threads", "ruled_turn oplog_tail thread_laws split_threads"),
     ("The program", "script_text report_text split_cases outside command_line split_top splitfs"),
-    ("For threads: proved, and used by no command yet", "ruled_turn oplog_tail thread_laws split_threads"),
 ]
 TESTS = "Tests"
 OTHERS = "Others"

@@ -122,6 +122,7 @@ failing 0 - mkfs S 64 4 16 16 = splitfs: write failed; S is kept, 9 bytes
 failing - 0 mkfs S 64 4 16 16 = splitfs: write failed; S is replaced, 262144 bytes
 failing 0 - tree S = splitfs: read failed; S is kept, 9 bytes
 failing 1 - tree S = splitfs: bad image: rule 1 at 9; S is kept, 9 bytes
+failing 1 - step S S strict = splitfs: bad image: rule 1 at 9; S is kept, 9 bytes
 failing 0 0 tree - = splitfs: write failed; S is kept, 9 bytes
 ";
 

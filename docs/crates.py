@@ -21,7 +21,7 @@ LAYERS: list[tuple[str, str]] = [
     ("Maps of blocks", "extent_model extent_map block_pool k_relink"),
     (
         "The image",
-        "layout_model image_model image_layout k_inodes k_names oplog_entry map_chain block_io volume_laws image_laws damage_laws",
+        "layout_model image_model image_layout k_inodes k_names oplog_entry map_chain block_io volume_laws image_laws",
     ),
     ("The file calls and the modes", "posix_types posix_tables posix_spec posix_laws crash_spec commute_laws crash_judge"),
     (
@@ -43,7 +43,7 @@ LAYERS: list[tuple[str, str]] = [
     ),
     (
         "The World as it runs",
-        "world_view_laws call_laws round_laws run_laws event_laws course_laws progress_laws world_parts world_begins world_rounds split_world "
+        "world_view_laws call_laws round_laws run_laws progress_laws world_parts world_begins world_rounds split_world "
         "schedule split_machine",
     ),
     ("Runs by threads", "ruled_turn oplog_tail thread_laws split_threads"),

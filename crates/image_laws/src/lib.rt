@@ -8,10 +8,18 @@
 //! words put back; and going up from a name is decided in a table of any kind.
 //!
 //! `specs/Laws.antt` has these laws, each as one statement; the functions here are where they are proved to
-//! hold. Stands on `image_model` and `volume_laws`.
+//! hold. `damages` has damaged images, each with the rule that it breaks first. Stands on `image_model` and
+//! `volume_laws`.
 #![tactic(auto)]
 
+mod damages;
+
 ghost use Rattle.image_laws.specs.Laws.{HasParts, IsOfParts, IsOfRules, BreaksNone, BreaksOne, BreaksAsVolume, FreshIsChecked, FreshHasRoot, IsCheckedAlike, HasOneContent, StandsWithoutLog, IsWholeOlder, IsWholeNewer, IsTornMixed, IsTornPartly, IsWholeLent, HoldsNonePast, DecidesTheWayUp, ReturnsForEver};
+
+pub use damages::{
+    deep_trees, wrong_entries, wrong_inodes, wrong_journals, wrong_lengths, wrong_names,
+    wrong_owners, wrong_superblocks,
+};
 
 /// A checked image is the conjunction of its four parts.
 pub fn a_checked_image_is_its_parts()

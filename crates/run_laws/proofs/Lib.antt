@@ -1,4 +1,24 @@
 pub mod Acted
 pub mod Longer
 pub mod Logs
+pub mod Places
+pub mod Slots
+pub mod Lines
+pub mod EventsActed
+pub mod Crashes
+pub mod Moves
+pub mod Pays
+pub mod Few
+pub mod Stays
+pub mod Works
+pub mod Begins
+pub mod Finishes
+pub mod Checks
+pub mod Finds
+pub mod Nodes
+pub mod Machines
+pub mod Beside
+pub mod Rounds
+pub mod Left
+pub mod Some
 pub use Rattle.round_log.proofs as round_log_proofs

@@ -1,6 +1,13 @@
 pub mod Acted
 pub mod Changes
 pub mod Paid
+pub mod Held
+pub mod EventsPaid
+pub mod Between
+pub mod EventsLaws
+pub mod Course
+pub mod Runs
+pub mod CourseLaws
 pub use Rattle.world_view_laws.specs.crash_spec
 pub use Rattle.round_log.specs.image_model
 pub use Rattle.world_view_laws.specs.file_calls as file_calls

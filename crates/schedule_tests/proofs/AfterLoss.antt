@@ -20,18 +20,18 @@ use Rattle.run_laws.specs.world_view_laws.Jobs.{GivesUp, HomesStay, IsOfWorld, L
 use Rattle.run_laws.specs.world_view_laws.Losses.{MayCrash}
 use Rattle.run_laws.specs.world_view_laws.Views.{WorldView}
 use Rattle.posix_types.specs.declared.call.Who.{Who}
-use Rattle.event_laws.specs.declared.held.Held.{Held}
-use Rattle.event_laws.specs.declared.held.Work.{Work}
-use Rattle.event_laws.specs.Between.{Between, CanCrash}
-use Rattle.event_laws.specs.EventsLaws.{held, IsHeldAt, with_log, without_job}
-use Rattle.event_laws.specs.Held.{filled_of, HasLog, IsLogOf, IsWorkOut, jobs_of, lines_in, OutView}
-use Rattle.event_laws.proofs.Crashes.{AreOut, log_left, may_crash, work_out}
-use Rattle.event_laws.proofs.Few.{without_place}
-use Rattle.event_laws.proofs.Lines.{log_finished, log_later, log_without, slot_below}
-use Rattle.event_laws.proofs.Places.{at_In, In_at, place_there, skip, skip_apart, skip_back, skip_one, taken_at}
-use Rattle.event_laws.proofs.Slots.{slot_there}
-use Rattle.event_laws.proofs.Stays.{callers_taken, drafts_taken, In_taken, open_calls, work_stays}
-use Rattle.event_laws.proofs.Checks.{crashes_between}
+use Rattle.run_laws.specs.declared.held.Held.{Held}
+use Rattle.run_laws.specs.declared.held.Work.{Work}
+use Rattle.run_laws.specs.Between.{Between, CanCrash}
+use Rattle.run_laws.specs.EventsLaws.{held, IsHeldAt, with_log, without_job}
+use Rattle.run_laws.specs.Held.{filled_of, HasLog, IsLogOf, IsWorkOut, jobs_of, lines_in, OutView}
+use Rattle.run_laws.proofs.Crashes.{AreOut, log_left, may_crash, work_out}
+use Rattle.run_laws.proofs.Few.{without_place}
+use Rattle.run_laws.proofs.Lines.{log_finished, log_later, log_without, slot_below}
+use Rattle.run_laws.proofs.Places.{at_In, In_at, place_there, skip, skip_apart, skip_back, skip_one, taken_at}
+use Rattle.run_laws.proofs.Slots.{slot_there}
+use Rattle.run_laws.proofs.Stays.{callers_taken, drafts_taken, In_taken, open_calls, work_stays}
+use Rattle.run_laws.proofs.Checks.{crashes_between}
 use Rattle.split_machine.specs.Events.{IsUnderWay}
 use Rattle.split_machine.proofs.Begins.{none_some}
 use Rattle.schedule_tests.specs.Losses.{AreStillHeld, GivesWork, IsAfterLoss, IsAtMoment, LosesWork, MayFinish, MayGiveUp}

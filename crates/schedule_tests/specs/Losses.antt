@@ -9,11 +9,11 @@ use Rattle.run_laws.specs.write_end.Blocks.{AreBlocksHome}
 use Rattle.run_laws.specs.world_view_laws.Begins.{IsFilledOut}
 use Rattle.run_laws.specs.world_view_laws.Jobs.{GivesUp, IsOfWorld, LosesFinish}
 use Rattle.run_laws.specs.world_view_laws.Views.{WorldView}
-use Rattle.event_laws.specs.declared.held.Held.{Held}
-use Rattle.event_laws.specs.declared.held.Work.{Work}
-use Rattle.event_laws.specs.EventsLaws.{IsHere}
-use Rattle.event_laws.specs.Between.{AreNextCalls, HaveOwnCallers, HaveOwnDrafts}
-use Rattle.event_laws.specs.Held.{IsLogOf, IsWorkOut, OutView}
+use Rattle.run_laws.specs.declared.held.Held.{Held}
+use Rattle.run_laws.specs.declared.held.Work.{Work}
+use Rattle.run_laws.specs.EventsLaws.{IsHere}
+use Rattle.run_laws.specs.Between.{AreNextCalls, HaveOwnCallers, HaveOwnDrafts}
+use Rattle.run_laws.specs.Held.{IsLogOf, IsWorkOut, OutView}
 use Rattle.split_machine.specs.Events.{IsUnderWay}
 
 -- Each job that is held is one of the World, at a place of its own; and those of the World that are not held finished behind the loss, so

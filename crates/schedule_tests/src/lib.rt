@@ -8,7 +8,7 @@
 //! `worlds` runs Worlds by hand, event by event, and tells them that the power went; what may still come of a job behind that, no
 //! clause of the machine speaks of, since it crashes at once. There it is proved that each call may come.
 //!
-//! What is tested is shown alone. Stands on `split_tables` and `test_kit`, and `worlds` on `split_machine` and `event_laws` as well.
+//! What is tested is shown alone. Stands on `split_tables` and `test_kit`, and `worlds` on `split_machine` and `run_laws` as well.
 #![tactic(auto)]
 
 #[cfg(test)]

@@ -12,16 +12,16 @@ use Rattle.run_laws.specs.write_jobs.Jobs.{JobView}
 use Rattle.run_laws.specs.world_view_laws.declared.views.over.Over.{Over}
 use Rattle.run_laws.specs.world_view_laws.Begins.{BeginsJob, IsPowerLost, IsRoundOver, Returns, Waits}
 use Rattle.run_laws.specs.world_view_laws.Views.{files_out, HasNone, next_of, state_of, WorldView}
-use Rattle.event_laws.specs.declared.held.Held.{Held}
-use Rattle.event_laws.specs.declared.held.Work.{Work}
-use Rattle.event_laws.specs.EventsLaws.{held, with_job}
-use Rattle.event_laws.specs.Between.{Between}
-use Rattle.event_laws.specs.Held.{HasLog, OutView}
+use Rattle.run_laws.specs.declared.held.Held.{Held}
+use Rattle.run_laws.specs.declared.held.Work.{Work}
+use Rattle.run_laws.specs.EventsLaws.{held, with_job}
+use Rattle.run_laws.specs.Between.{Between}
+use Rattle.run_laws.specs.Held.{HasLog, OutView}
 use Rattle.run_laws.specs.round_log.Rounds.{RoundView}
-use Rattle.event_laws.proofs.Begins.{begin_loses, call_returns, job_begins, round_ends}
-use Rattle.event_laws.proofs.Places.{at_In, place_there}
-use Rattle.course_laws.proofs.Beside.{logs_beside, returns_beside}
-use Rattle.course_laws.proofs.Rounds.{lacks_space_beside, loses_beside}
+use Rattle.run_laws.proofs.Begins.{begin_loses, call_returns, job_begins, round_ends}
+use Rattle.run_laws.proofs.Places.{at_In, place_there}
+use Rattle.run_laws.proofs.Beside.{logs_beside, returns_beside}
+use Rattle.run_laws.proofs.Rounds.{lacks_space_beside, loses_beside}
 use Rattle.split_machine.specs.declared.outstanding.Acted.{Acted}
 use Rattle.split_machine.specs.Events.{HasJobAt, IsAble, IsActed, IsToBegin, IsUnderWay}
 

@@ -32,15 +32,15 @@ use Rattle.run_laws.specs.Changes.{ChangesTreeAtMost}
 use Rattle.run_laws.proofs.Acted.{all_of}
 use Rattle.split_world.specs.world_parts.Answers.{IsEnded}
 use Rattle.split_world.specs.world_parts.declared.outcomes.Ended.{Ended}
-use Rattle.event_laws.specs.declared.held.Held.{Held}
-use Rattle.event_laws.specs.Between.{Between, CanCrash, GoesOn, IsLater, left_to_do, LosesPower}
-use Rattle.event_laws.specs.Held.{filled_of, jobs_of, lines_in, nothing_out, OutView}
-use Rattle.event_laws.specs.Paid.{IsPaid, IsPaidOff}
-use Rattle.event_laws.proofs.Checks.{acted_between, affords_lost, affords_whole, crashes_between, may_end, none_held, none_pending, paid_is_paid_off}
-use Rattle.course_laws.specs.Course.{at_start, setting_of}
-use Rattle.course_laws.specs.Course as courses
-use Rattle.course_laws.specs.Runs.{AreLeft, IsBelow, IsFirst, IsRan, IsScheduled, KeepsStop}
-use Rattle.course_laws.proofs.Rounds.{calls_are_out, run_starts}
+use Rattle.run_laws.specs.declared.held.Held.{Held}
+use Rattle.run_laws.specs.Between.{Between, CanCrash, GoesOn, IsLater, left_to_do, LosesPower}
+use Rattle.run_laws.specs.Held.{filled_of, jobs_of, lines_in, nothing_out, OutView}
+use Rattle.run_laws.specs.EventsPaid.{IsPaid, IsPaidOff}
+use Rattle.run_laws.proofs.Checks.{acted_between, affords_lost, affords_whole, crashes_between, may_end, none_held, none_pending, paid_is_paid_off}
+use Rattle.run_laws.specs.Course.{at_start, setting_of}
+use Rattle.run_laws.specs.Course as courses
+use Rattle.run_laws.specs.Runs.{AreLeft, IsBelow, IsFirst, IsRan, IsScheduled, KeepsStop}
+use Rattle.run_laws.proofs.Rounds.{calls_are_out, run_starts}
 use Rattle.split_machine.specs.declared.runs.End.{End}
 use Rattle.split_machine.proofs.Begins.{none_some}
 use Rattle.split_machine.specs.Events.{IsBegunRound, IsOnCourse, IsOpen}

@@ -7,7 +7,7 @@ use Rattle.posix_types.specs.declared.call.Who.{Who}
 use Rattle.run_laws.specs.posix_tables.Open.{same_who}
 use Rattle.run_laws.specs.in_flight.commute_laws.Handles.{same_who-is}
 use Rattle.run_laws.proofs.Longer.{same_caller}
-use Rattle.event_laws.specs.declared.held.Held.{Held}
+use Rattle.run_laws.specs.declared.held.Held.{Held}
 
 -- none of the jobs before a place is this caller's
 abbrev pub NoneBefore : List Held → Who → ℕ → Type 0

@@ -8,19 +8,19 @@ use Rattle.run_laws.specs.pm_model.Powers.{is_on, Steps, Supply}
 use Rattle.run_laws.specs.round_log.Rounds.{RoundView}
 use Rattle.run_laws.specs.write_jobs.Jobs.{FilledView}
 use Rattle.run_laws.specs.world_view_laws.Views.{WorldView}
-use Rattle.event_laws.specs.declared.held.Held.{Held}
-use Rattle.event_laws.specs.declared.held.Work.{Work}
-use Rattle.event_laws.specs.Between.{Between, GoesOn, LosesPower}
-use Rattle.event_laws.specs.EventsLaws.{held, IsHeldAt, StoresEntry, with_log, with_work, without_job}
-use Rattle.event_laws.specs.Held.{OutView}
-use Rattle.event_laws.proofs.Finishes.{filled_is_here, finish_loses, job_finishes, job_given_up, persisted_is_here}
+use Rattle.run_laws.specs.declared.held.Held.{Held}
+use Rattle.run_laws.specs.declared.held.Work.{Work}
+use Rattle.run_laws.specs.Between.{Between, GoesOn, LosesPower}
+use Rattle.run_laws.specs.EventsLaws.{held, IsHeldAt, StoresEntry, with_log, with_work, without_job}
+use Rattle.run_laws.specs.Held.{OutView}
+use Rattle.run_laws.proofs.Finishes.{filled_is_here, finish_loses, job_finishes, job_given_up, persisted_is_here}
 use Rattle.run_laws.proofs.Longer.{Steps-more}
-use Rattle.event_laws.proofs.Pays.{no_steps}
-use Rattle.event_laws.proofs.Places.{place_there, put_back}
-use Rattle.event_laws.proofs.Works.{claimed_is_free, entry_persisted, entry_stored, fill_loses, job_claims, job_fills, persist_loses, store_loses, stored_is_there}
-use Rattle.course_laws.specs.CourseLaws.{LeadsOn}
-use Rattle.course_laws.proofs.Beside.{claims_beside, fills_beside, persists_beside, stores_beside}
-use Rattle.course_laws.proofs.Rounds.{calls_are_out, finds_full_beside, finishes_beside}
+use Rattle.run_laws.proofs.Pays.{no_steps}
+use Rattle.run_laws.proofs.Places.{place_there, put_back}
+use Rattle.run_laws.proofs.Works.{claimed_is_free, entry_persisted, entry_stored, fill_loses, job_claims, job_fills, persist_loses, store_loses, stored_is_there}
+use Rattle.run_laws.specs.CourseLaws.{LeadsOn}
+use Rattle.run_laws.proofs.Beside.{claims_beside, fills_beside, persists_beside, stores_beside}
+use Rattle.run_laws.proofs.Rounds.{calls_are_out, finds_full_beside, finishes_beside}
 use Rattle.split_machine.specs.declared.outstanding.Acted.{Acted}
 use Rattle.split_machine.specs.Events.{acted_by, HasJobAt, IsActed, LosesEvent, with_back}
 use Rattle.split_machine.specs.Works as works

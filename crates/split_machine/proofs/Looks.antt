@@ -10,10 +10,10 @@ use Rattle.posix_types.specs.declared.call.Who.{Who}
 use Rattle.run_laws.specs.posix_spec.Scripted.{IsSetUp}
 use Rattle.run_laws.specs.list_laws.Members.{In}
 use Rattle.run_laws.specs.live_model.Standing.{JobOut}
-use Rattle.event_laws.specs.Between.{AreNextCalls, Between}
-use Rattle.event_laws.specs.Held.{OutView}
-use Rattle.course_laws.specs.CourseLaws.{IsKeptFrom, IsSettingUp, MustCheck}
-use Rattle.course_laws.proofs.Left.{set_up_goes_on}
+use Rattle.run_laws.specs.Between.{AreNextCalls, Between}
+use Rattle.run_laws.specs.Held.{OutView}
+use Rattle.run_laws.specs.CourseLaws.{IsKeptFrom, IsSettingUp, MustCheck}
+use Rattle.run_laws.proofs.Left.{set_up_goes_on}
 use Rattle.run_laws.specs.world_view_laws.Views.{next_of, WorldView}
 use Rattle.split_world.specs.world_parts.declared.outcomes.Ready.{Ready}
 use Rattle.split_world.specs.world_parts.Answers.{IsReady}

@@ -6,11 +6,11 @@ use Rattle.schedule.specs.declared.picks.Picker.{Picker}
 use Rattle.schedule.specs.Picking.{IsSoFar}
 use Rattle.run_laws.specs.pm_model.Powers.{is_on, Supply}
 use Rattle.run_laws.specs.world_view_laws.Views.{WorldView}
-use Rattle.event_laws.specs.Between.{left_to_do}
-use Rattle.event_laws.specs.Held.{nothing_out, OutView}
-use Rattle.course_laws.specs.Course.{setting_of}
-use Rattle.course_laws.specs.Runs.{IsFirst}
-use Rattle.course_laws.proofs.Rounds.{calls_are_out}
+use Rattle.run_laws.specs.Between.{left_to_do}
+use Rattle.run_laws.specs.Held.{nothing_out, OutView}
+use Rattle.run_laws.specs.Course.{setting_of}
+use Rattle.run_laws.specs.Runs.{IsFirst}
+use Rattle.run_laws.proofs.Rounds.{calls_are_out}
 use Rattle.split_machine.specs.declared.outstanding.Acted.{Acted}
 use Rattle.split_machine.specs.declared.runs.End.{End}
 use Rattle.split_machine.specs.Events.{IsOnCourse, IsOpen, IsStepped, IsUnderWay}

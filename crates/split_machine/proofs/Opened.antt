@@ -6,12 +6,12 @@ use Rattle.run_laws.specs.pm_model.Powers.{Supply}
 use Rattle.run_laws.specs.round_log.Rounds.{RoundView}
 use Rattle.run_laws.specs.world_view_laws.Rounds.{IsRoundBegun}
 use Rattle.run_laws.specs.world_view_laws.Views.{WorldView}
-use Rattle.event_laws.specs.declared.held.Held.{Held}
-use Rattle.event_laws.specs.Between.{Between}
-use Rattle.event_laws.specs.EventsLaws.{CanCheck, opened_log, with_log}
-use Rattle.event_laws.specs.Held.{HasLog, nothing_out, OutView}
-use Rattle.event_laws.proofs.Checks.{begins_round}
-use Rattle.course_laws.proofs.Rounds.{opens_beside}
+use Rattle.run_laws.specs.declared.held.Held.{Held}
+use Rattle.run_laws.specs.Between.{Between}
+use Rattle.run_laws.specs.EventsLaws.{CanCheck, opened_log, with_log}
+use Rattle.run_laws.specs.Held.{HasLog, nothing_out, OutView}
+use Rattle.run_laws.proofs.Checks.{begins_round}
+use Rattle.run_laws.proofs.Rounds.{opens_beside}
 use Rattle.split_machine.specs.Events.{IsOpen, IsUnderWay}
 
 -- a Checkpoint may come

@@ -3,8 +3,8 @@ use Rattle.std.specs.Prelude.{◌≡◌, List, [], ◌∷◌, ◌++◌, Option, 
 use Rattle.std.specs.List.{cons_option, filter_map}
 use Rattle.std.proofs.Common.{ap, ◌∙◌, sym}
 use Rattle.run_laws.specs.write_jobs.Jobs.{FilledView, JobView}
-use Rattle.event_laws.specs.declared.held.Held.{Held}
-use Rattle.event_laws.specs.Held.{filled_in, filled_of, job_in, jobs_of}
+use Rattle.run_laws.specs.declared.held.Held.{Held}
+use Rattle.run_laws.specs.Held.{filled_in, filled_of, job_in, jobs_of}
 
 -- with one more at the end
 module _ {X Y : Type 0} (f : X → Option Y) where

@@ -15,16 +15,16 @@ use Rattle.run_laws.specs.posix_spec.Scripted.{call_count, IsSetUp}
 use Rattle.run_laws.specs.round_log.Rounds.{RoundView}
 use Rattle.run_laws.specs.world_view_laws.Rounds.{IsNextRound, LosesRound}
 use Rattle.run_laws.specs.world_view_laws.Views.{calls_out, WorldView}
-use Rattle.event_laws.specs.Between.{Between, GoesOn, LosesPower}
-use Rattle.event_laws.specs.EventsLaws.{CanCheck}
-use Rattle.event_laws.specs.Held.{nothing_out, OutView}
-use Rattle.event_laws.proofs.Checks.{check_loses, round_checked}
-use Rattle.course_laws.specs.Course.{ComesBy, FindsOver, IsCourse, IsEventOf, Leads, setting_of}
-use Rattle.course_laws.specs.Course as courses
-use Rattle.course_laws.specs.CourseLaws.{GoesBeside}
-use Rattle.course_laws.specs.Runs.{AreLeft, IsToRun}
-use Rattle.course_laws.proofs.Some.{not_ended}
-use Rattle.course_laws.proofs.Rounds.{calls_are_out, checks_beside, idle_can_run, job_can_run, others_cannot}
+use Rattle.run_laws.specs.Between.{Between, GoesOn, LosesPower}
+use Rattle.run_laws.specs.EventsLaws.{CanCheck}
+use Rattle.run_laws.specs.Held.{nothing_out, OutView}
+use Rattle.run_laws.proofs.Checks.{check_loses, round_checked}
+use Rattle.run_laws.specs.Course.{ComesBy, FindsOver, IsCourse, IsEventOf, Leads, setting_of}
+use Rattle.run_laws.specs.Course as courses
+use Rattle.run_laws.specs.CourseLaws.{GoesBeside}
+use Rattle.run_laws.specs.Runs.{AreLeft, IsToRun}
+use Rattle.run_laws.proofs.Some.{not_ended}
+use Rattle.run_laws.proofs.Rounds.{calls_are_out, checks_beside, idle_can_run, job_can_run, others_cannot}
 use Rattle.split_machine.specs.declared.outstanding.Acted.{Acted}
 use Rattle.split_machine.specs.Events.{AreOutBeside, AreRunnable, EndsBeside, IsActed, IsBegunRound, IsOnCourse, IsOpen, IsSetUpStep, IsStepped, LosesStep, Tells}
 

@@ -16,14 +16,14 @@ use Rattle.run_laws.specs.world_view_laws.Begins.{EndsRound, MayBegin}
 use Rattle.run_laws.specs.world_view_laws.Rounds.{IsRoundBegun}
 use Rattle.run_laws.specs.world_view_laws.Views.{calls_out, HasNone, next_of, WorldView}
 use Rattle.run_laws.specs.posix_spec.Run.{Unfinished}
-use Rattle.event_laws.specs.declared.held.Held.{Held}
-use Rattle.event_laws.specs.declared.held.Work.{Work}
-use Rattle.event_laws.specs.Between.{Between, GoesOn, LosesPower}
-use Rattle.event_laws.specs.EventsLaws.{CanBegin, held, IsOpened, opened_log, with_log}
-use Rattle.event_laws.specs.Held.{OutView}
-use Rattle.course_laws.specs.Course.{IsCourse, Leads, setting_of}
-use Rattle.course_laws.specs.CourseLaws.{HasBegun, IsKeptFrom, LeadsOn}
-use Rattle.course_laws.specs.Runs.{AreLeft}
+use Rattle.run_laws.specs.declared.held.Held.{Held}
+use Rattle.run_laws.specs.declared.held.Work.{Work}
+use Rattle.run_laws.specs.Between.{Between, GoesOn, LosesPower}
+use Rattle.run_laws.specs.EventsLaws.{CanBegin, held, IsOpened, opened_log, with_log}
+use Rattle.run_laws.specs.Held.{OutView}
+use Rattle.run_laws.specs.Course.{IsCourse, Leads, setting_of}
+use Rattle.run_laws.specs.CourseLaws.{HasBegun, IsKeptFrom, LeadsOn}
+use Rattle.run_laws.specs.Runs.{AreLeft}
 use Rattle.split_machine.specs.declared.outstanding.Out.{Out}
 use Rattle.split_machine.specs.declared.outstanding.Acted.{Acted}
 

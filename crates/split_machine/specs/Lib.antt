@@ -7,7 +7,6 @@ pub use Rattle.split_world.specs.log_replay.Mounts
 pub use Rattle.split_world.specs.log_replay.Resets
 pub use Rattle.split_world.specs.log_replay.Sweeps
 pub use Rattle.split_world.specs.log_replay.k_check as k_check
-pub use Rattle.course_laws.specs as course_laws
 pub use Rattle.run_laws.specs as run_laws
 pub use Rattle.run_laws.specs.world_view_laws as world_view_laws
 pub use Rattle.run_laws.specs.world_view_laws.file_calls.Built

@@ -7,11 +7,11 @@ use Rattle.run_laws.specs.posix_spec.Scripted.{IsComplete}
 use Rattle.run_laws.specs.world_view_laws.Losses.{KeepsActed}
 use Rattle.run_laws.specs.world_view_laws.Rounds.{IsLeft, MayUnmount}
 use Rattle.run_laws.specs.world_view_laws.Views.{calls_out, WorldView}
-use Rattle.event_laws.specs.Between.{Between, CanCrash, IsLater}
-use Rattle.event_laws.specs.Held.{filled_of, lines_in, OutView}
-use Rattle.event_laws.specs.Paid.{IsPaid, IsPaidOff, PaysForActed}
-use Rattle.course_laws.specs.Course.{setting_of}
-use Rattle.course_laws.specs.Runs.{AreLeft, IsBelow, IsLostRun, IsWholeRun}
+use Rattle.run_laws.specs.Between.{Between, CanCrash, IsLater}
+use Rattle.run_laws.specs.Held.{filled_of, lines_in, OutView}
+use Rattle.run_laws.specs.EventsPaid.{IsPaid, IsPaidOff, PaysForActed}
+use Rattle.run_laws.specs.Course.{setting_of}
+use Rattle.run_laws.specs.Runs.{AreLeft, IsBelow, IsLostRun, IsWholeRun}
 use Rattle.split_machine.specs.declared.outstanding.Acted.{Acted}
 use Rattle.split_machine.specs.declared.runs.End.{End}
 use Rattle.split_machine.specs.Events.{IsOnCourse}

@@ -10,8 +10,8 @@ use Rattle.run_laws.specs.write_jobs.Jobs.{FilledView, IsCutOff, IsFilled, JobVi
 use Rattle.run_laws.specs.world_view_laws.Begins.{IsFilledOut}
 use Rattle.run_laws.specs.world_view_laws.Jobs.{Finishes, GivesUp, LosesFinish}
 use Rattle.run_laws.specs.world_view_laws.Views.{WorldView}
-use Rattle.event_laws.specs.declared.held.Work.{Work}
-use Rattle.event_laws.specs.EventsLaws.{IsHere, PersistsEntry, StoresEntry}
+use Rattle.run_laws.specs.declared.held.Work.{Work}
+use Rattle.run_laws.specs.EventsLaws.{IsHere, PersistsEntry, StoresEntry}
 
 -- WHAT IT ASKS FOR: to be filled its power was not lost; a filled job is one of the World; the line of its slot is there, and has one
 -- candidate a word before an entry is stored into it.

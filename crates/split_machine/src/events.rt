@@ -1,9 +1,9 @@
 //! The events of a caller, one a call.
 ghost use Rattle.std.specs.Prelude.{◌≡◌, ◌≤◌, ◌++◌, ◌∷◌, [], IfOk, Some, length, slice_get};
 ghost use Rattle.run_laws.specs.posix_spec.Scripted.{IsSetUp};
-ghost use Rattle.event_laws.specs.EventsLaws as law;
-ghost use Rattle.event_laws.specs.declared.held.Held as held;
-ghost use Rattle.event_laws.specs.declared.held.Work as works;
+ghost use Rattle.run_laws.specs.EventsLaws as law;
+ghost use Rattle.run_laws.specs.declared.held.Held as held;
+ghost use Rattle.run_laws.specs.declared.held.Work as works;
 ghost use Rattle.split_machine.specs.Events.{
   acted_by,
   HasJobAt,
@@ -17,10 +17,9 @@ ghost use Rattle.split_machine.specs.Events.{
 
 use crate::outstanding::{Acted, Out, place_of};
 use crate::work::work_event;
-use event_laws::{Held, Work};
 use pm_lines::Power;
 use posix_types::Who;
-use run_laws::{Job, NoMemory};
+use run_laws::{Held, Job, NoMemory, Work};
 use split_world::{Begun, World};
 use std::alloc::{AllocError, Global};
 

@@ -9,7 +9,7 @@
 //! (`IsScheduled`), fewer than a cut or exactly as many; its steps are afforded; and where the power was for N steps
 //! at most N calls changed the tree, the unfinished ones included that acted (`KeepsStop`).
 //!
-//! Stands on `split_world` (the World), `schedule` (orders), `round_log`, and on `event_laws` and `course_laws`.
+//! Stands on `split_world` (the World), `schedule` (orders), `round_log` and `run_laws`.
 #![tactic(auto)]
 
 mod events;
@@ -19,11 +19,10 @@ mod rounds;
 mod runs;
 mod work;
 
-pub use course_laws::a_round_goes_beside;
 pub use events::caller_event;
 pub use outstanding::{Acted, Out, place_of};
 pub use rounds::open_round;
-pub use run_laws::{KSplit, NoMemory};
+pub use run_laws::{KSplit, NoMemory, a_round_goes_beside};
 pub use runs::{crash, run};
 pub use schedule::Order;
 pub use split_world::{

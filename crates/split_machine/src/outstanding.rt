@@ -2,13 +2,12 @@
 ghost use Rattle.std.specs.Prelude.{◌≡◌, ◌≢◌, ◌++◌, ℕ, [], IfNone, IfOk, IfSome, Some, slice_get};
 ghost use Rattle.std.specs.List.{cons_option};
 ghost use Rattle.run_laws.specs.posix_tables.Open.{same_who};
-ghost use Rattle.event_laws.specs.Held as holding;
-ghost use Rattle.event_laws.specs.declared.held.Held as held;
+ghost use Rattle.run_laws.specs.Held as holding;
+ghost use Rattle.run_laws.specs.declared.held.Held as held;
 
-use event_laws::{Held, Work};
 use pm_lines::Line;
 use posix_types::Who;
-use run_laws::{FilledJob, Job, RoundLog};
+use run_laws::{FilledJob, Held, Job, RoundLog, Work};
 use std::alloc::{AllocError, Global};
 
 /// The log of the round, if one goes on, and the logged calls that have not finished, in the order of their

@@ -3,7 +3,7 @@ ghost use Rattle.std.specs.Prelude.{◌≡◌, ◌≢◌, ◌&&◌, [], None, If
 ghost use Rattle.posix_types.specs.declared.call.Who as whos;
 ghost use Rattle.run_laws.specs.posix_spec.Scripted.{IsSetUp};
 ghost use Rattle.run_laws.specs.world_view_laws.Views.{next_of};
-ghost use Rattle.event_laws.specs.Between.{AreNextCalls};
+ghost use Rattle.run_laws.specs.Between.{AreNextCalls};
 ghost use Rattle.split_machine.specs.Events.{
   AreRunnable,
   HaveEnded,

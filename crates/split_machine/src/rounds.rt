@@ -1,7 +1,7 @@
 //! Rounds: one begins, and ends at a Checkpoint.
 ghost use Rattle.std.specs.Prelude.{◌≡◌, ◌≢◌, ◌<◌, [], length, None, IfOk};
 ghost use Rattle.run_laws.specs.posix_spec.Scripted.{call_count};
-ghost use Rattle.event_laws.specs.Between.{Between};
+ghost use Rattle.run_laws.specs.Between.{Between};
 ghost use Rattle.split_machine.specs.Events.{IsOpen, IsSetUpStep, IsUnderWay, seen};
 
 use crate::outstanding::{Acted, Out};

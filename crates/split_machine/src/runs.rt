@@ -3,9 +3,9 @@ ghost use Rattle.std.specs.Prelude.{◌≡◌, ◌≢◌, IfOk, Some, false, tru
 ghost use Rattle.run_laws.specs.crash_spec.Orders.{none_picked, Order as MeantOrder};
 ghost use Rattle.schedule.specs.Picking.{IsSoFar};
 ghost use Rattle.schedule.specs.Seen.{seen_order};
-ghost use Rattle.course_laws.specs.Runs.{IsFirst};
-ghost use Rattle.event_laws.specs.Between.{CanCrash};
-ghost use Rattle.event_laws.specs.Held as holding;
+ghost use Rattle.run_laws.specs.Runs.{IsFirst};
+ghost use Rattle.run_laws.specs.Between.{CanCrash};
+ghost use Rattle.run_laws.specs.Held as holding;
 ghost use Rattle.split_machine.specs.declared.outstanding.Acted as done;
 ghost use Rattle.split_machine.specs.Events.{seen};
 ghost use Rattle.split_machine.specs.Runs.{CanEnd, HasCome, IsAtEnd, IsCrashed, IsEndedBy, IsLeftAfter, IsRunEnded};

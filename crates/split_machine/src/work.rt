@@ -6,13 +6,12 @@ ghost use Rattle.run_laws.specs.pm_model.Powers.{is_on, Supply};
 ghost use Rattle.run_laws.specs.round_log.Rounds.{RoundView};
 ghost use Rattle.run_laws.specs.world_view_laws.Jobs.{IsOfWorld};
 ghost use Rattle.run_laws.specs.world_view_laws.Views.{WorldView};
-ghost use Rattle.event_laws.specs.declared.held.Work as works;
-ghost use Rattle.event_laws.specs.EventsLaws.{IsHere};
+ghost use Rattle.run_laws.specs.declared.held.Work as works;
+ghost use Rattle.run_laws.specs.EventsLaws.{IsHere};
 ghost use Rattle.split_machine.specs.Works.{IsReadyFor, IsWorked};
 
-use event_laws::Work;
 use pm_lines::Power;
-use run_laws::{Filled, FilledJob, Job, RoundLog};
+use run_laws::{Filled, FilledJob, Job, RoundLog, Work};
 use split_world::{Finished, World};
 
 // A job is filled.

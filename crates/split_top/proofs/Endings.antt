@@ -19,9 +19,9 @@ use Rattle.command_line.specs.posix_spec.State.{State}
 use Rattle.command_line.specs.posix_spec.Tree.{tree}
 use Rattle.command_line.specs.posix_spec.Unfinished.{AreUnfinished}
 use Rattle.split_machine.specs.run_laws.Changes.{ChangesTreeAtMost}
-use Rattle.split_machine.specs.course_laws.Course.{setting_of}
-use Rattle.split_machine.specs.course_laws.CourseLaws.{LeadsReaches}
-use Rattle.split_machine.specs.course_laws.Runs as machine
+use Rattle.split_machine.specs.run_laws.Course.{setting_of}
+use Rattle.split_machine.specs.run_laws.CourseLaws.{LeadsReaches}
+use Rattle.split_machine.specs.run_laws.Runs as machine
 use Rattle.split_machine.specs.crash_spec.Schedules.{Reaches, Scheduled}
 use Rattle.split_machine.specs.world_view_laws.Views.{WorldView}
 use Rattle.split_machine.specs.world_image_laws.Starts.{has_setting}

@@ -6,7 +6,7 @@ use Rattle.command_line.specs.layout_model.Places.{Geometry}
 use Rattle.posix_types.specs.declared.item.Item.{Item}
 use Rattle.command_line.specs.posix_spec.Run.{Unfinished}
 use Rattle.split_machine.specs.world_image_laws.Promised.{KeepsPromise}
-use Rattle.split_machine.specs.course_laws.Runs.{IsRan}
+use Rattle.split_machine.specs.run_laws.Runs.{IsRan}
 use Rattle.split_machine.specs.world_view_laws.Views.{WorldView}
 use Rattle.split_top.specs.Found.{IsLeftAs}
 use Rattle.split_top.specs.Runs.{Task}

@@ -11,7 +11,7 @@ use Rattle.posix_types.specs.declared.call.Mode.{Mode}
 use Rattle.posix_types.specs.declared.item.Item.{Item}
 use Rattle.posix_types.specs.declared.tree.TreeEntry.{TreeEntry}
 use Rattle.posix_types.specs.Scripts.{Scripts}
-use Rattle.split_machine.specs.course_laws.Runs as machine
+use Rattle.split_machine.specs.run_laws.Runs as machine
 use Rattle.split_machine.specs.crash_spec.Permitted.{Permitted}
 use Rattle.split_machine.specs.world_image_laws.Promised.{KeepsPromise}
 use Rattle.split_machine.specs.world_image_laws.Starts.{has_setting}

@@ -15,7 +15,7 @@ use Rattle.command_line.specs.posix_spec.Unfinished.{AreUnfinished}
 use Rattle.split_machine.specs.crash_spec.Machine.{Setting}
 use Rattle.split_machine.specs.crash_spec.Permitted.{Permitted}
 use Rattle.split_machine.specs.crash_spec.Schedules.{Course, Scheduled}
-use Rattle.split_machine.specs.course_laws.Runs.{IsBegun}
+use Rattle.split_machine.specs.run_laws.Runs.{IsBegun}
 use Rattle.split_machine.specs.run_laws.Acted.{AreSomeOf}
 use Rattle.split_machine.specs.run_laws.Changes.{ChangesTreeAtMost}
 

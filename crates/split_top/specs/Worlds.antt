@@ -13,7 +13,7 @@ use Rattle.posix_types.specs.Scripts.{Scripts}
 use Rattle.command_line.specs.Command.{Options}
 use Rattle.command_line.specs.posix_spec.Run.{Unfinished}
 use Rattle.split_machine.specs.world_view_laws.Views.{WorldView}
-use Rattle.split_machine.specs.course_laws.Runs.{IsFirst}
+use Rattle.split_machine.specs.run_laws.Runs.{IsFirst}
 use Rattle.split_machine.specs.world_image_laws.BeginningLaws.{IsShapeOf}
 use Rattle.split_top.specs.Runs.{beginning, IsRunBy, Task, task_on}
 

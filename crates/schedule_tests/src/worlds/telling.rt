@@ -1,8 +1,8 @@
 //! A row is done, line by line.
 ghost use Rattle.std.specs.Prelude.{◌≡◌, false, IfOk};
-ghost use Rattle.event_laws.specs.Between.{CanCrash};
-ghost use Rattle.event_laws.specs.Held.{nothing_out};
-ghost use Rattle.split_machine.specs.course_laws.Runs.{IsFirst};
+ghost use Rattle.run_laws.specs.Between.{CanCrash};
+ghost use Rattle.run_laws.specs.Held.{nothing_out};
+ghost use Rattle.split_machine.specs.run_laws.Runs.{IsFirst};
 ghost use Rattle.split_machine.specs.Events.{seen, IsUnderWay};
 ghost use Rattle.schedule_tests.specs.Losses.{IsAfterLoss, IsAtMoment};
 

@@ -1,8 +1,8 @@
 use Rattle.std.specs.Prelude.{List, Ok}
 use Rattle.std.proofs.Common.{subst, sym}
 use Rattle.split_world.specs.world_parts.Answers.{IsBegun}
-use Rattle.event_laws.specs.declared.held.Held.{Held}
-use Rattle.event_laws.specs.Held.{OutView}
+use Rattle.run_laws.specs.declared.held.Held.{Held}
+use Rattle.run_laws.specs.Held.{OutView}
 use Rattle.split_machine.specs.declared.outstanding.Acted.{Acted}
 use Rattle.split_machine.specs.Events.{IsActed, seen}
 use Rattle.split_machine.proofs.Begins.{acted_job, acted_lost, acted_over, acted_return, lines_out, never_ends, never_waits}

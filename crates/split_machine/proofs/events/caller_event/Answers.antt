@@ -1,6 +1,6 @@
 use Rattle.std.specs.Prelude.{◌≡◌, ◌≢◌, ℕ, List, Some, slice_get}
 use Rattle.std.proofs.Common.{subst}
-use Rattle.event_laws.specs.declared.held.Held.{Held}
+use Rattle.run_laws.specs.declared.held.Held.{Held}
 use Rattle.split_machine.specs.Events.{seen}
 use Rattle.split_machine.proofs.Begins.{job_at, to_begin}
 use Rattle.split_machine.proofs.events.caller_event.Goals as goal

@@ -1,6 +1,6 @@
 use Rattle.std.specs.Prelude.{◌≡◌, ℕ, List, [], false, true, refl}
 use Rattle.std.proofs.Common.{◌∙◌, subst, sym}
-use Rattle.course_laws.proofs.Left.{all_return, nobody_runs}
+use Rattle.run_laws.proofs.Left.{all_return, nobody_runs}
 use Rattle.schedule.specs.Picking.{PicksNext}
 use Rattle.split_machine.specs.Events.{HaveEnded, seen}
 use Rattle.split_machine.proofs.Steps.{thread_acted}

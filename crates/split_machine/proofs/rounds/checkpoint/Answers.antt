@@ -2,7 +2,7 @@ use Rattle.std.specs.Prelude.{Ok, Option, IsSome}
 use Rattle.std.proofs.Common.{◌∙◌, sym, subst}
 use Rattle.run_laws.specs.round_log.Rounds.{RoundView}
 use Rattle.run_laws.specs.world_view_laws.Rounds.{MayCheckpoint}
-use Rattle.event_laws.proofs.Checks.{may_check}
+use Rattle.run_laws.proofs.Checks.{may_check}
 use Rattle.split_world.specs.world_parts.Answers.{IsCheckpoint}
 use Rattle.split_machine.specs.Events.{seen}
 use Rattle.split_machine.proofs.Begins.{none_some}

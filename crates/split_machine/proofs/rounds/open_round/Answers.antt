@@ -1,7 +1,7 @@
 use Rattle.std.specs.Prelude.{◌≡◌, false, is_some, None}
 use Rattle.std.proofs.Common.{◌∙◌, subst, sym}
 use Rattle.run_laws.specs.round_log.Rounds.{RoundView}
-use Rattle.event_laws.specs.EventsLaws.{with_log}
+use Rattle.run_laws.specs.EventsLaws.{with_log}
 use Rattle.split_machine.specs.Events.{IsOpen, seen}
 use Rattle.split_machine.proofs.Opened.{begun_open, not_some}
 use Rattle.split_machine.proofs.rounds.open_round.Goals as goal

@@ -1,4 +1,4 @@
-use Rattle.event_laws.specs.Between.{left_to_do}
+use Rattle.run_laws.specs.Between.{left_to_do}
 use Rattle.split_machine.specs.Events.{seen}
 use Rattle.split_machine.specs.Runs.{IsReached}
 use Rattle.split_machine.proofs.Loop.{AreLed}

@@ -1,9 +1,0 @@
--- the rows
-use Rattle.damage_laws.specs.TreeRows.{sixteen_steps, seventeen_steps}
-use Rattle.damage_laws.proofs.deep_trees.Goals as goal
-
-pub returns-clause-sixteen : goal.returns-clause-sixteen
-returns-clause-sixteen c = sixteen_steps
-
-pub returns-clause-seventeen : goal.returns-clause-seventeen
-returns-clause-seventeen c = seventeen_steps

@@ -1,5 +1,0 @@
-use Rattle.damage_laws.specs.MapDamage.{block_of_two_files, chain_block_of_its_file}
-use Rattle.damage_laws.proofs.wrong_owners.Goals as goal
-
-pub returns : goal.returns
-returns c = record { two_files = block_of_two_files; chain = chain_block_of_its_file }

@@ -13,11 +13,11 @@ use Rattle.world_view_laws.specs.eof_laws.image_model.Volume.{inode}
 use Rattle.world_view_laws.specs.eof_laws.file_overlay.declared.runs.Run.{Run}
 use Rattle.world_view_laws.specs.eof_laws.file_table.Files.{ChangesFile, Files, runs_in, size_in}
 use Rattle.world_view_laws.specs.file_calls.Built.{CutsNothing}
-use Rattle.file_publish.specs.Answers.{LosesFile, PublishesFile}
-use Rattle.file_publish.specs.fsync_relink.Others.{GoesOn}
-use Rattle.file_publish.specs.fsync_relink.Publishes.{IsPublishDone, IsPublishStopped, MayPublish}
-use Rattle.file_publish.specs.RelinksLaws.{StandsThen}
-use Rattle.file_publish.specs.world_model.TreeRules.{used_below}
+use Rattle.world_view_laws.specs.file_publish.Answers.{LosesFile, PublishesFile}
+use Rattle.world_view_laws.specs.file_publish.fsync_relink.Others.{GoesOn}
+use Rattle.world_view_laws.specs.file_publish.fsync_relink.Publishes.{IsPublishDone, IsPublishStopped, MayPublish}
+use Rattle.world_view_laws.specs.file_publish.RelinksLaws.{StandsThen}
+use Rattle.world_view_laws.specs.file_publish.world_model.TreeRules.{used_below}
 use Rattle.world_view_laws.specs.eof_laws.k_split_model.View.{View}
 use Rattle.world_view_laws.specs.eof_laws.list_laws.Members.{In}
 use Rattle.file_truncate.proofs.file_calls_proofs.eof_laws_proofs.MapsFiles.{end_published}
@@ -52,7 +52,7 @@ use Rattle.world_view_laws.specs.k_split_laws.Left.{IsLeftOf}
 use Rattle.world_view_laws.specs.Views.{Disk, disk_of, inode_on, IsWorldOver, kept_of, state_of, WorldView}
 use Rattle.file_truncate.specs.Truncates.{HasNothingStaged}
 use Rattle.file_truncate.proofs.write_plan_proofs.Calls.{handle_open}
-use Rattle.file_publish.specs.StandingLaws.{StandsToPublish}
+use Rattle.world_view_laws.specs.file_publish.StandingLaws.{StandsToPublish}
 use Rattle.call_laws.specs.Calls.{AtCall, HasBareFile, IsBare}
 use Rattle.call_laws.proofs.Staying.{few_made, going_now, others_still, stands_now, still_at}
 

@@ -1,6 +1,6 @@
 pub mod Calls
 pub use Rattle.world_view_laws.specs.eof_laws
-pub use Rattle.file_publish.specs as file_publish
+pub use Rattle.world_view_laws.specs.file_publish as file_publish
 pub use Rattle.file_truncate.specs as file_truncate
 pub use Rattle.world_view_laws.specs.in_flight as in_flight
 pub use Rattle.world_view_laws.specs as world_view_laws

@@ -6,5 +6,5 @@
 //! (`Running`); a `truncate` finds too little room beside the jobs that are out, or returns only where these leave what
 //! it takes (`Truncating`). `Staying` says what holds where nothing returned.
 
-pub use file_publish::publish_file;
 pub use file_truncate::{Truncated, lacks_room, truncate_file};
+pub use world_view_laws::publish_file;

@@ -17,3 +17,4 @@ pub use puts::{
     WriteBegun, begin_write, jobs_need_what_their_calls_do, kept_numbers_are_those_of_the_state,
     need_of,
 };
+pub use world_view_laws::move_by;

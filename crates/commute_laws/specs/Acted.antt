@@ -9,20 +9,20 @@ use Rattle.std.proofs.lemmas.List.{get_or-set_other, get_or-set_same, set-append
 use Rattle.std.proofs.lemmas.List.Sums.{sum_by-cons}
 use Rattle.std.proofs.lemmas.Option.{slice_get_within}
 use Rattle.std.proofs.Math.ListN.{length-set}
-use Rattle.posix_laws.specs.posix_types.declared.call.Who.{Who}
-use Rattle.posix_laws.specs.posix_types.declared.handle.Handle.{Handle}
-use Rattle.posix_laws.specs.posix_tables.declared.nodes.DirEntry.{DirEntry}
-use Rattle.posix_laws.specs.posix_tables.declared.nodes.File.{File}
-use Rattle.posix_laws.specs.posix_tables.declared.nodes.Node.{Node}
-use Rattle.posix_laws.specs.posix_tables.declared.open.Binding.{Binding}
-use Rattle.posix_laws.specs.posix_tables.declared.open.Description.{Description}
-use Rattle.posix_laws.specs.posix_tables.Names.{exists_at, is_named, last_name, lines_taken, longest_name, number_at, parent_at, with_entry, without_entry, without_place}
-use Rattle.posix_laws.specs.posix_tables.Nodes.{is_directory, is_live, node_at}
-use Rattle.posix_laws.specs.posix_tables.Open.{closed, describes, description_number, has_key, is_binding, is_open, key_of, next_descriptor, opened, Tables, with_binding, with_descriptor, with_offset, with_opened, without_binding, without_unused}
-use Rattle.posix_laws.specs.posix_spec.FileRows.{file_number}
-use Rattle.posix_laws.specs.posix_spec.State.{alone, made, space, State, swept, unnamed, with_node}
-use Rattle.posix_laws.specs.posix_spec.Step.{empty_file, opening, opening_number, renamed}
-use Rattle.posix_laws.specs.Views.{SameView}
+use Rattle.crash_spec.specs.posix_laws.posix_types.declared.call.Who.{Who}
+use Rattle.crash_spec.specs.posix_laws.posix_types.declared.handle.Handle.{Handle}
+use Rattle.crash_spec.specs.posix_laws.posix_tables.declared.nodes.DirEntry.{DirEntry}
+use Rattle.crash_spec.specs.posix_laws.posix_tables.declared.nodes.File.{File}
+use Rattle.crash_spec.specs.posix_laws.posix_tables.declared.nodes.Node.{Node}
+use Rattle.crash_spec.specs.posix_laws.posix_tables.declared.open.Binding.{Binding}
+use Rattle.crash_spec.specs.posix_laws.posix_tables.declared.open.Description.{Description}
+use Rattle.crash_spec.specs.posix_laws.posix_tables.Names.{exists_at, is_named, last_name, lines_taken, longest_name, number_at, parent_at, with_entry, without_entry, without_place}
+use Rattle.crash_spec.specs.posix_laws.posix_tables.Nodes.{is_directory, is_live, node_at}
+use Rattle.crash_spec.specs.posix_laws.posix_tables.Open.{closed, describes, description_number, has_key, is_binding, is_open, key_of, next_descriptor, opened, Tables, with_binding, with_descriptor, with_offset, with_opened, without_binding, without_unused}
+use Rattle.crash_spec.specs.posix_laws.posix_spec.FileRows.{file_number}
+use Rattle.crash_spec.specs.posix_laws.posix_spec.State.{alone, made, space, State, swept, unnamed, with_node}
+use Rattle.crash_spec.specs.posix_laws.posix_spec.Step.{empty_file, opening, opening_number, renamed}
+use Rattle.crash_spec.specs.posix_laws.Views.{SameView}
 use Rattle.commute_laws.specs.Bystanders.{file_within, swept-open}
 use Rattle.commute_laws.specs.Frames.{file_number-is, KeepsSeen}
 use Rattle.commute_laws.specs.Handles.{closed-is, described, keys_apart, Opens, Opens-opened, opened-Opens, Opens-set, slot_of, with_offset-is}

@@ -6,19 +6,19 @@ use Rattle.std.proofs.Common.{ap, ◌∙◌, sym, subst, inl, inr, arith, lit<}
 use Rattle.std.proofs.lemmas.Bool.{cases_eq}
 use Rattle.std.proofs.lemmas.Bool.Decides.{Decides-eqb}
 use Rattle.std.proofs.lemmas.List.{get_or_append_left, get_or-set_other}
-use Rattle.posix_laws.specs.posix_types.declared.call.Call.{Call}
-use Rattle.posix_laws.specs.posix_types.declared.call.Who.{Who}
-use Rattle.posix_laws.specs.posix_types.declared.handle.Handle.{Handle}
-use Rattle.posix_laws.specs.posix_tables.declared.nodes.File.{File}
-use Rattle.posix_laws.specs.posix_tables.declared.nodes.Node.{Node}
-use Rattle.posix_laws.specs.posix_tables.declared.open.Description.{Description}
-use Rattle.posix_laws.specs.posix_tables.NameRows.{rmdir_rows}
-use Rattle.posix_laws.specs.posix_tables.Names.{directory_stands, file_stands, is_named, node_at_path, number_at}
-use Rattle.posix_laws.specs.posix_tables.Nodes.{is_directory, node_at}
-use Rattle.posix_laws.specs.posix_tables.Open.{describes, is_open, Tables}
-use Rattle.posix_laws.specs.posix_spec.State.{alone, made, space, State, swept, unnamed, with_node}
-use Rattle.posix_laws.specs.posix_spec.Step.{mkdir_done, rename_done, renamed, rmdir_done, step, unlink_done}
-use Rattle.posix_laws.specs.RowLaws.{no_row, none_fits, stepped-keeps}
+use Rattle.crash_spec.specs.posix_laws.posix_types.declared.call.Call.{Call}
+use Rattle.crash_spec.specs.posix_laws.posix_types.declared.call.Who.{Who}
+use Rattle.crash_spec.specs.posix_laws.posix_types.declared.handle.Handle.{Handle}
+use Rattle.crash_spec.specs.posix_laws.posix_tables.declared.nodes.File.{File}
+use Rattle.crash_spec.specs.posix_laws.posix_tables.declared.nodes.Node.{Node}
+use Rattle.crash_spec.specs.posix_laws.posix_tables.declared.open.Description.{Description}
+use Rattle.crash_spec.specs.posix_laws.posix_tables.NameRows.{rmdir_rows}
+use Rattle.crash_spec.specs.posix_laws.posix_tables.Names.{directory_stands, file_stands, is_named, node_at_path, number_at}
+use Rattle.crash_spec.specs.posix_laws.posix_tables.Nodes.{is_directory, node_at}
+use Rattle.crash_spec.specs.posix_laws.posix_tables.Open.{describes, is_open, Tables}
+use Rattle.crash_spec.specs.posix_laws.posix_spec.State.{alone, made, space, State, swept, unnamed, with_node}
+use Rattle.crash_spec.specs.posix_laws.posix_spec.Step.{mkdir_done, rename_done, renamed, rmdir_done, step, unlink_done}
+use Rattle.crash_spec.specs.posix_laws.RowLaws.{no_row, none_fits, stepped-keeps}
 use Rattle.commute_laws.specs.Handles.{Opens, slot_of}
 
 -- The file of a node, and that someone has it open.

@@ -4,31 +4,31 @@ use Rattle.std.specs.Option.{option_map_or}
 use Rattle.std.proofs.Common.{ap, ◌∙◌, sym, subst, inl, inr, arith, lit<}
 use Rattle.std.proofs.lemmas.Bool.Decides.{nat_tests}
 use Rattle.std.proofs.lemmas.List.{get_or-set_other}
-use Rattle.posix_laws.specs.posix_types.declared.call.Call.{Call}
-use Rattle.posix_laws.specs.posix_types.declared.call.Who.{Who}
-use Rattle.posix_laws.specs.posix_types.declared.handle.Flags.{Flags}
-use Rattle.posix_laws.specs.posix_types.declared.handle.Handle.{Handle}
-use Rattle.posix_laws.specs.posix_types.declared.handle.Whence.{Whence}
-use Rattle.posix_laws.specs.posix_types.declared.item.Outcome.{Outcome}
-use Rattle.posix_laws.specs.posix_types.declared.reply.Errno.{Errno}
-use Rattle.posix_laws.specs.posix_types.declared.reply.Reply.{Reply}
-use Rattle.posix_laws.specs.posix_tables.declared.nodes.Node.{Node}
-use Rattle.posix_laws.specs.posix_tables.declared.open.Description.{Description}
-use Rattle.posix_laws.specs.posix_tables.block_counts.declared.TheConstants.{LONGEST_FILE, LONGEST_WRITE}
-use Rattle.posix_laws.specs.posix_tables.Bytes.{bytes_from, moved_place, overwritten, resized}
-use Rattle.posix_laws.specs.posix_tables.NameRows.{list_rows, mkdir_rows, open_rows, rename_rows, rmdir_rows, stat_rows, unlink_rows}
-use Rattle.posix_laws.specs.posix_tables.Names.{directory_stands, exists_at, file_stands, names_in, node_at_path, number_at}
-use Rattle.posix_laws.specs.posix_tables.Nodes.{is_directory, node_at, published_node, published_of}
-use Rattle.posix_laws.specs.posix_tables.Open.{closed, is_full, key_of, next_descriptor, opened, with_descriptor, with_offset, with_opened}
-use Rattle.posix_laws.specs.posix_tables.Outcomes.{answer, first, idle_row, row, unless}
-use Rattle.posix_laws.specs.posix_tables.Room.{growth, write_need}
-use Rattle.posix_laws.specs.posix_spec.FileRows.{close_rows, content, dup_rows, file_number, fsync_rows, no_blocks, offset_of, read_rows, seek_base, seek_rows, seek_target, truncate_rows, write_rows, write_start}
-use Rattle.posix_laws.specs.posix_spec.Run.{Unfinished}
-use Rattle.posix_laws.specs.posix_spec.State.{alone, room, space, State, swept, unnamed, with_file, with_node, with_published}
-use Rattle.posix_laws.specs.posix_spec.Step.{close_done, done, dup_done, fsync_done, is_busy as is_elsewhere, list_done, mkdir_done, moved_offset, open_done, opening_number, pread_done, pwrite_done, read_done, rename_done, renamed, rmdir_done, seek_done, stat_done, stat_of, step, stepped, Stepped, truncate_done, unlink_done, write_done, written}
-use Rattle.posix_laws.specs.RowLaws.{no_row, none_fits, row-none}
-use Rattle.posix_laws.specs.ViewLaws.{content-same, file_number-same, node-same, write_start-same}
-use Rattle.posix_laws.specs.Views.{need_of, SameView}
+use Rattle.crash_spec.specs.posix_laws.posix_types.declared.call.Call.{Call}
+use Rattle.crash_spec.specs.posix_laws.posix_types.declared.call.Who.{Who}
+use Rattle.crash_spec.specs.posix_laws.posix_types.declared.handle.Flags.{Flags}
+use Rattle.crash_spec.specs.posix_laws.posix_types.declared.handle.Handle.{Handle}
+use Rattle.crash_spec.specs.posix_laws.posix_types.declared.handle.Whence.{Whence}
+use Rattle.crash_spec.specs.posix_laws.posix_types.declared.item.Outcome.{Outcome}
+use Rattle.crash_spec.specs.posix_laws.posix_types.declared.reply.Errno.{Errno}
+use Rattle.crash_spec.specs.posix_laws.posix_types.declared.reply.Reply.{Reply}
+use Rattle.crash_spec.specs.posix_laws.posix_tables.declared.nodes.Node.{Node}
+use Rattle.crash_spec.specs.posix_laws.posix_tables.declared.open.Description.{Description}
+use Rattle.crash_spec.specs.posix_laws.posix_tables.block_counts.declared.TheConstants.{LONGEST_FILE, LONGEST_WRITE}
+use Rattle.crash_spec.specs.posix_laws.posix_tables.Bytes.{bytes_from, moved_place, overwritten, resized}
+use Rattle.crash_spec.specs.posix_laws.posix_tables.NameRows.{list_rows, mkdir_rows, open_rows, rename_rows, rmdir_rows, stat_rows, unlink_rows}
+use Rattle.crash_spec.specs.posix_laws.posix_tables.Names.{directory_stands, exists_at, file_stands, names_in, node_at_path, number_at}
+use Rattle.crash_spec.specs.posix_laws.posix_tables.Nodes.{is_directory, node_at, published_node, published_of}
+use Rattle.crash_spec.specs.posix_laws.posix_tables.Open.{closed, is_full, key_of, next_descriptor, opened, with_descriptor, with_offset, with_opened}
+use Rattle.crash_spec.specs.posix_laws.posix_tables.Outcomes.{answer, first, idle_row, row, unless}
+use Rattle.crash_spec.specs.posix_laws.posix_tables.Room.{growth, write_need}
+use Rattle.crash_spec.specs.posix_laws.posix_spec.FileRows.{close_rows, content, dup_rows, file_number, fsync_rows, no_blocks, offset_of, read_rows, seek_base, seek_rows, seek_target, truncate_rows, write_rows, write_start}
+use Rattle.crash_spec.specs.posix_laws.posix_spec.Run.{Unfinished}
+use Rattle.crash_spec.specs.posix_laws.posix_spec.State.{alone, room, space, State, swept, unnamed, with_file, with_node, with_published}
+use Rattle.crash_spec.specs.posix_laws.posix_spec.Step.{close_done, done, dup_done, fsync_done, is_busy as is_elsewhere, list_done, mkdir_done, moved_offset, open_done, opening_number, pread_done, pwrite_done, read_done, rename_done, renamed, rmdir_done, seek_done, stat_done, stat_of, step, stepped, Stepped, truncate_done, unlink_done, write_done, written}
+use Rattle.crash_spec.specs.posix_laws.RowLaws.{no_row, none_fits, row-none}
+use Rattle.crash_spec.specs.posix_laws.ViewLaws.{content-same, file_number-same, node-same, write_start-same}
+use Rattle.crash_spec.specs.posix_laws.Views.{need_of, SameView}
 use Rattle.crash_spec.specs.Busy.{handle_node, path_node, waits_for}
 use Rattle.commute_laws.specs.Acted.{acted, Change, closed-acted, handle-acted, IsSwept, key_of-acted, made-acted, node-acted, opening-acted, opening_number-acted, option_either, renamed-acted, space-acted, swept-acted, Touches, unknown-acted, unnamed-acted, view-acted, with_descriptor-acted, with_offset-acted, with_opened-acted, with_slot}
 use Rattle.commute_laws.specs.Bystanders.{directory_apart, is_open-Opens, no_file, not_not, stands}

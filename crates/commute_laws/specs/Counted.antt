@@ -3,31 +3,31 @@ use Rattle.std.specs.Prelude.{◌≡◌, ◌<◌, ◌≤◌, ℕ, zero, suc, ◌
 use Rattle.std.proofs.Common.{arith, ap, ◌∙◌, sym, subst}
 use Rattle.std.proofs.lemmas.Bool.Decides.{nat_tests}
 use Rattle.std.proofs.lemmas.List.Sums.{sum_by-cons}
-use Rattle.posix_laws.specs.block_counts.Counts.{held_by}
-use Rattle.posix_laws.specs.posix_types.declared.call.Call.{Call}
-use Rattle.posix_laws.specs.posix_types.declared.call.Who.{Who}
-use Rattle.posix_laws.specs.posix_types.declared.handle.Handle.{Handle}
-use Rattle.posix_laws.specs.posix_types.declared.item.Outcome.{Outcome}
-use Rattle.posix_laws.specs.posix_types.declared.reply.Reply.{Reply}
-use Rattle.posix_laws.specs.posix_types.declared.reply.What.{What}
-use Rattle.posix_laws.specs.posix_tables.declared.nodes.File.{File}
-use Rattle.posix_laws.specs.posix_tables.declared.nodes.Node.{Node}
-use Rattle.posix_laws.specs.posix_tables.Bytes.{overwritten}
-use Rattle.posix_laws.specs.posix_tables.Nodes.{bytes_of, node_at}
-use Rattle.posix_laws.specs.posix_tables.Open.{may_write}
-use Rattle.posix_laws.specs.posix_tables.Outcomes.{answer, first, no_space}
-use Rattle.posix_laws.specs.posix_tables.Room.{growth, held, staged_below, write_need}
-use Rattle.posix_laws.specs.posix_spec.FileRows.{content, file_number, no_blocks, write_rows, write_start}
-use Rattle.posix_laws.specs.posix_spec.Put.{Put, put_at, put_by}
-use Rattle.posix_laws.specs.posix_spec.Run.{after_call, after_calls, Unfinished}
-use Rattle.posix_laws.specs.posix_spec.State.{alone, room, State}
-use Rattle.posix_laws.specs.posix_spec.Step.{pwrite_done, step, stepped, write_done}
-use Rattle.posix_laws.specs.FitsLaws.{held_by-le, length-overwritten}
-use Rattle.posix_laws.specs.RowLaws.{NoRow, put_at-Some, rows-from_Accepts}
-use Rattle.posix_laws.specs.PutLaws.{LeavesWhole-step}
-use Rattle.posix_laws.specs.Puts.{LeavesWhole, put_bytes, PutsWhole, with_whole}
-use Rattle.posix_laws.specs.ViewLaws.{content-same, write_start-same}
-use Rattle.posix_laws.specs.Views.{AreAfforded, KeepsView, need_of}
+use Rattle.crash_spec.specs.posix_laws.block_counts.Counts.{held_by}
+use Rattle.crash_spec.specs.posix_laws.posix_types.declared.call.Call.{Call}
+use Rattle.crash_spec.specs.posix_laws.posix_types.declared.call.Who.{Who}
+use Rattle.crash_spec.specs.posix_laws.posix_types.declared.handle.Handle.{Handle}
+use Rattle.crash_spec.specs.posix_laws.posix_types.declared.item.Outcome.{Outcome}
+use Rattle.crash_spec.specs.posix_laws.posix_types.declared.reply.Reply.{Reply}
+use Rattle.crash_spec.specs.posix_laws.posix_types.declared.reply.What.{What}
+use Rattle.crash_spec.specs.posix_laws.posix_tables.declared.nodes.File.{File}
+use Rattle.crash_spec.specs.posix_laws.posix_tables.declared.nodes.Node.{Node}
+use Rattle.crash_spec.specs.posix_laws.posix_tables.Bytes.{overwritten}
+use Rattle.crash_spec.specs.posix_laws.posix_tables.Nodes.{bytes_of, node_at}
+use Rattle.crash_spec.specs.posix_laws.posix_tables.Open.{may_write}
+use Rattle.crash_spec.specs.posix_laws.posix_tables.Outcomes.{answer, first, no_space}
+use Rattle.crash_spec.specs.posix_laws.posix_tables.Room.{growth, held, staged_below, write_need}
+use Rattle.crash_spec.specs.posix_laws.posix_spec.FileRows.{content, file_number, no_blocks, write_rows, write_start}
+use Rattle.crash_spec.specs.posix_laws.posix_spec.Put.{Put, put_at, put_by}
+use Rattle.crash_spec.specs.posix_laws.posix_spec.Run.{after_call, after_calls, Unfinished}
+use Rattle.crash_spec.specs.posix_laws.posix_spec.State.{alone, room, State}
+use Rattle.crash_spec.specs.posix_laws.posix_spec.Step.{pwrite_done, step, stepped, write_done}
+use Rattle.crash_spec.specs.posix_laws.FitsLaws.{held_by-le, length-overwritten}
+use Rattle.crash_spec.specs.posix_laws.RowLaws.{NoRow, put_at-Some, rows-from_Accepts}
+use Rattle.crash_spec.specs.posix_laws.PutLaws.{LeavesWhole-step}
+use Rattle.crash_spec.specs.posix_laws.Puts.{LeavesWhole, put_bytes, PutsWhole, with_whole}
+use Rattle.crash_spec.specs.posix_laws.ViewLaws.{content-same, write_start-same}
+use Rattle.crash_spec.specs.posix_laws.Views.{AreAfforded, KeepsView, need_of}
 use Rattle.commute_laws.specs.Flights.{InFlight, KeepsView-call}
 use Rattle.commute_laws.specs.Needs.{AreAfforded-step, AreInFlight, unfinished_call, FitsBeside-put, Flight, LetsAllBe, LetsAllBe-flight, needs, needs-cons, needs-step}
 use Rattle.commute_laws.specs.Commutes.{below_not}

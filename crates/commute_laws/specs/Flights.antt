@@ -1,22 +1,22 @@
 -- A logged write in flight, and what it keeps under a call of others.
 use Rattle.std.specs.Prelude.{◌≡◌, ◌≢◌, ◌≤◌, ℕ, List, Some, option_map}
 use Rattle.std.proofs.Common.{ap, ◌∙◌, sym, subst}
-use Rattle.posix_laws.specs.posix_types.declared.call.Call.{Call}
-use Rattle.posix_laws.specs.posix_types.declared.call.Who.{Who}
-use Rattle.posix_laws.specs.posix_types.declared.handle.Handle.{Handle}
-use Rattle.posix_laws.specs.posix_tables.declared.nodes.File.{File}
-use Rattle.posix_laws.specs.posix_tables.declared.nodes.Node.{Node}
-use Rattle.posix_laws.specs.posix_tables.declared.open.Description.{Description}
-use Rattle.posix_laws.specs.posix_tables.Nodes.{node_at}
-use Rattle.posix_laws.specs.posix_tables.Open.{opened}
-use Rattle.posix_laws.specs.posix_spec.FileRows.{write_start}
-use Rattle.posix_laws.specs.posix_spec.Put.{Put, put_at, put_by}
-use Rattle.posix_laws.specs.posix_spec.Run.{after_call, Unfinished}
-use Rattle.posix_laws.specs.posix_spec.State.{room, State}
-use Rattle.posix_laws.specs.RowLaws.{put_at-Some}
-use Rattle.posix_laws.specs.Puts.{PutsWhole}
-use Rattle.posix_laws.specs.ViewLaws.{need_of-kept, PutsWhole-kept}
-use Rattle.posix_laws.specs.Views.{KeepsView, need_of, SameView}
+use Rattle.crash_spec.specs.posix_laws.posix_types.declared.call.Call.{Call}
+use Rattle.crash_spec.specs.posix_laws.posix_types.declared.call.Who.{Who}
+use Rattle.crash_spec.specs.posix_laws.posix_types.declared.handle.Handle.{Handle}
+use Rattle.crash_spec.specs.posix_laws.posix_tables.declared.nodes.File.{File}
+use Rattle.crash_spec.specs.posix_laws.posix_tables.declared.nodes.Node.{Node}
+use Rattle.crash_spec.specs.posix_laws.posix_tables.declared.open.Description.{Description}
+use Rattle.crash_spec.specs.posix_laws.posix_tables.Nodes.{node_at}
+use Rattle.crash_spec.specs.posix_laws.posix_tables.Open.{opened}
+use Rattle.crash_spec.specs.posix_laws.posix_spec.FileRows.{write_start}
+use Rattle.crash_spec.specs.posix_laws.posix_spec.Put.{Put, put_at, put_by}
+use Rattle.crash_spec.specs.posix_laws.posix_spec.Run.{after_call, Unfinished}
+use Rattle.crash_spec.specs.posix_laws.posix_spec.State.{room, State}
+use Rattle.crash_spec.specs.posix_laws.RowLaws.{put_at-Some}
+use Rattle.crash_spec.specs.posix_laws.Puts.{PutsWhole}
+use Rattle.crash_spec.specs.posix_laws.ViewLaws.{need_of-kept, PutsWhole-kept}
+use Rattle.crash_spec.specs.posix_laws.Views.{KeepsView, need_of, SameView}
 use Rattle.crash_spec.specs.Busy.{waits_for}
 use Rattle.commute_laws.specs.Bystanders.{IsHeld, is_open-Opens}
 use Rattle.commute_laws.specs.Frames.{AreThreads, file_number-is, granted, KeepsSeen, KeepsSeen-step, LeavesAlone}

@@ -6,23 +6,23 @@ use Rattle.std.proofs.Common.{ap, ◌∙◌, sym, subst, inl, inr, lit<}
 use Rattle.std.proofs.lemmas.Bool.Decides.{Decides-eqb}
 use Rattle.std.proofs.lemmas.List.{get_or-set_other}
 use Rattle.crash_spec.specs.list_laws.Members.{In}
-use Rattle.posix_laws.specs.posix_types.declared.call.Call.{Call}
-use Rattle.posix_laws.specs.posix_types.declared.call.Who.{Who}
-use Rattle.posix_laws.specs.posix_types.declared.handle.Flags.{Flags}
-use Rattle.posix_laws.specs.posix_types.declared.handle.Handle.{Handle}
-use Rattle.posix_laws.specs.posix_tables.declared.nodes.File.{File}
-use Rattle.posix_laws.specs.posix_tables.declared.nodes.Node.{Node}
-use Rattle.posix_laws.specs.posix_tables.declared.open.Description.{Description}
-use Rattle.posix_laws.specs.posix_tables.NameRows.{open_rows}
-use Rattle.posix_laws.specs.posix_tables.Names.{exists_at, is_named, node_at_path, number_at, too_long}
-use Rattle.posix_laws.specs.posix_tables.Nodes.{node_at}
-use Rattle.posix_laws.specs.posix_tables.Outcomes.{first}
-use Rattle.posix_laws.specs.posix_tables.Open.{is_full, is_open, key_of, opened, same_who, Tables, with_offset}
-use Rattle.posix_laws.specs.posix_spec.FileRows.{close_rows, dup_rows, file_number, fsync_rows, read_rows, seek_rows, truncate_rows, write_start}
-use Rattle.posix_laws.specs.posix_spec.Run.{Unfinished}
-use Rattle.posix_laws.specs.posix_spec.State.{alone, made, space, State, swept, with_file, with_node, with_published}
-use Rattle.posix_laws.specs.posix_spec.Step.{close_done, dup_done, empty_file, fsync_done, is_busy as is_elsewhere, list_done, moved_offset, open_done, opening, pread_done, pwrite_done, read_done, seek_done, stat_done, step, truncate_done, write_done, written}
-use Rattle.posix_laws.specs.RowLaws.{Accepts-from_rows, no_row, none_fits, stepped-keeps}
+use Rattle.crash_spec.specs.posix_laws.posix_types.declared.call.Call.{Call}
+use Rattle.crash_spec.specs.posix_laws.posix_types.declared.call.Who.{Who}
+use Rattle.crash_spec.specs.posix_laws.posix_types.declared.handle.Flags.{Flags}
+use Rattle.crash_spec.specs.posix_laws.posix_types.declared.handle.Handle.{Handle}
+use Rattle.crash_spec.specs.posix_laws.posix_tables.declared.nodes.File.{File}
+use Rattle.crash_spec.specs.posix_laws.posix_tables.declared.nodes.Node.{Node}
+use Rattle.crash_spec.specs.posix_laws.posix_tables.declared.open.Description.{Description}
+use Rattle.crash_spec.specs.posix_laws.posix_tables.NameRows.{open_rows}
+use Rattle.crash_spec.specs.posix_laws.posix_tables.Names.{exists_at, is_named, node_at_path, number_at, too_long}
+use Rattle.crash_spec.specs.posix_laws.posix_tables.Nodes.{node_at}
+use Rattle.crash_spec.specs.posix_laws.posix_tables.Outcomes.{first}
+use Rattle.crash_spec.specs.posix_laws.posix_tables.Open.{is_full, is_open, key_of, opened, same_who, Tables, with_offset}
+use Rattle.crash_spec.specs.posix_laws.posix_spec.FileRows.{close_rows, dup_rows, file_number, fsync_rows, read_rows, seek_rows, truncate_rows, write_start}
+use Rattle.crash_spec.specs.posix_laws.posix_spec.Run.{Unfinished}
+use Rattle.crash_spec.specs.posix_laws.posix_spec.State.{alone, made, space, State, swept, with_file, with_node, with_published}
+use Rattle.crash_spec.specs.posix_laws.posix_spec.Step.{close_done, dup_done, empty_file, fsync_done, is_busy as is_elsewhere, list_done, moved_offset, open_done, opening, pread_done, pwrite_done, read_done, seek_done, stat_done, step, truncate_done, write_done, written}
+use Rattle.crash_spec.specs.posix_laws.RowLaws.{Accepts-from_rows, no_row, none_fits, stepped-keeps}
 use Rattle.crash_spec.specs.Busy.{handle_node, is_busy, keeps_busy, Out, path_node, waits_for}
 use Rattle.commute_laws.specs.Bystanders.{file_within, IsHeld, KeepsFile, KeepsFile-mkdir, KeepsFile-none, KeepsFile-rename, KeepsFile-rmdir, KeepsFile-unlink, kept-made, kept-with_node, not_not}
 use Rattle.commute_laws.specs.Handles.{Opens, Opens-closed, Opens-with_descriptor, Opens-with_offset, Opens-with_opened}

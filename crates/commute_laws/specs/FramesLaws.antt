@@ -1,9 +1,9 @@
 -- The chief laws of writes in flight under the calls of others, each as one statement.
 use Rattle.std.specs.Prelude.{◌≡◌, ◌≤◌, ℕ, false, List, ◌∷◌, ◌++◌, map}
-use Rattle.posix_laws.specs.posix_types.declared.item.Item.{Item}
-use Rattle.posix_laws.specs.posix_spec.Run.{after_call, Unfinished, run}
-use Rattle.posix_laws.specs.posix_spec.State.{room, State}
-use Rattle.posix_laws.specs.Views.{AreAfforded, need_of}
+use Rattle.crash_spec.specs.posix_laws.posix_types.declared.item.Item.{Item}
+use Rattle.crash_spec.specs.posix_laws.posix_spec.Run.{after_call, Unfinished, run}
+use Rattle.crash_spec.specs.posix_laws.posix_spec.State.{room, State}
+use Rattle.crash_spec.specs.posix_laws.Views.{AreAfforded, need_of}
 use Rattle.crash_spec.specs.Busy.{is_busy}
 use Rattle.commute_laws.specs.Flights.{InFlight}
 use Rattle.commute_laws.specs.Frames.{AreThreads, LeavesAlone}

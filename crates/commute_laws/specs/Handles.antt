@@ -6,13 +6,13 @@ use Rattle.std.specs.Cmp.Lexicographic.{bytes_decides, pointwise}
 use Rattle.std.proofs.Common.{ap, ◌∙◌, sym, subst, inl, inr, arith}
 use Rattle.std.proofs.lemmas.Bool.Decides.{Decides-eqb, nat_tests}
 use Rattle.crash_spec.specs.list_laws.Members.{find-In, slice_get-front}
-use Rattle.posix_laws.specs.posix_types.declared.call.Who.{Who}
-use Rattle.posix_laws.specs.posix_types.declared.handle.Handle.{Handle}
-use Rattle.posix_laws.specs.posix_tables.declared.open.Binding.{Binding}
-use Rattle.posix_laws.specs.posix_tables.declared.open.Description.{Description}
-use Rattle.posix_laws.specs.posix_tables.Lookups.{without_first, without_place-position}
-use Rattle.posix_laws.specs.posix_tables.Names.{without_place}
-use Rattle.posix_laws.specs.posix_tables.Open.{binding_of, closed, description_number, free_descriptor, has_key, is_binding, is_full, key_of, next_descriptor, opened, same_handle, same_who, Tables, with_binding, with_descriptor, with_offset, with_opened, without_binding, without_unused}
+use Rattle.crash_spec.specs.posix_laws.posix_types.declared.call.Who.{Who}
+use Rattle.crash_spec.specs.posix_laws.posix_types.declared.handle.Handle.{Handle}
+use Rattle.crash_spec.specs.posix_laws.posix_tables.declared.open.Binding.{Binding}
+use Rattle.crash_spec.specs.posix_laws.posix_tables.declared.open.Description.{Description}
+use Rattle.crash_spec.specs.posix_laws.posix_tables.Lookups.{without_first, without_place-position}
+use Rattle.crash_spec.specs.posix_laws.posix_tables.Names.{without_place}
+use Rattle.crash_spec.specs.posix_laws.posix_tables.Open.{binding_of, closed, description_number, free_descriptor, has_key, is_binding, is_full, key_of, next_descriptor, opened, same_handle, same_who, Tables, with_binding, with_descriptor, with_offset, with_opened, without_binding, without_unused}
 use Rattle.commute_laws.specs.Lists.{find-pushed, find-without_first, find-without_first-none, free_place, slice_get-set_other}
 
 -- ---- callers and handles are told apart by their tests

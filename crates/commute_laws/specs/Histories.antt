@@ -2,10 +2,10 @@
 use Rattle.std.specs.Prelude.{◌≡◌, false, List, [], ◌∷◌, map, refl}
 use Rattle.std.proofs.Common.{ap, ◌∙◌, inl, inr}
 use Rattle.crash_spec.specs.list_laws.Members.{In}
-use Rattle.posix_laws.specs.posix_types.declared.item.Item.{Item}
-use Rattle.posix_laws.specs.posix_spec.Run.{after_call, begun, Unfinished, run}
-use Rattle.posix_laws.specs.posix_spec.State.{State}
-use Rattle.posix_laws.specs.Views.{AreAfforded}
+use Rattle.crash_spec.specs.posix_laws.posix_types.declared.item.Item.{Item}
+use Rattle.crash_spec.specs.posix_laws.posix_spec.Run.{after_call, begun, Unfinished, run}
+use Rattle.crash_spec.specs.posix_laws.posix_spec.State.{State}
+use Rattle.crash_spec.specs.posix_laws.Views.{AreAfforded}
 use Rattle.crash_spec.specs.Busy.{is_busy, Out}
 use Rattle.commute_laws.specs.Frames.{AreThreads, LeavesAlone-idle}
 use Rattle.commute_laws.specs.Handles.{same_who-sym}

@@ -2,20 +2,20 @@
 use Rattle.std.specs.Prelude.{◌≡◌, ◌≢◌, ◌≤◌, ℕ, ◌+◌, ◌-◌, get_or, List, length}
 use Rattle.std.proofs.Common.{arith, ap, ◌∙◌, sym, subst}
 use Rattle.std.proofs.lemmas.List.{get_or-set_other}
-use Rattle.posix_laws.specs.block_counts.Counts.{held_by, reserve_for}
-use Rattle.posix_laws.specs.posix_types.declared.call.Call.{Call}
-use Rattle.posix_laws.specs.posix_types.declared.call.Who.{Who}
-use Rattle.posix_laws.specs.posix_types.declared.handle.Handle.{Handle}
-use Rattle.posix_laws.specs.posix_types.declared.reply.Shape.{Shape}
-use Rattle.posix_laws.specs.posix_tables.declared.nodes.Node.{Node}
-use Rattle.posix_laws.specs.posix_tables.declared.open.Description.{Description}
-use Rattle.posix_laws.specs.posix_tables.Open.{Tables}
-use Rattle.posix_laws.specs.posix_tables.Room.{held}
-use Rattle.posix_laws.specs.posix_spec.Run.{after_call, Unfinished}
-use Rattle.posix_laws.specs.posix_spec.State.{Fits, room, State}
-use Rattle.posix_laws.specs.PutLaws.{LeavesWhole-step}
-use Rattle.posix_laws.specs.Puts.{LeavesWhole, PutsWhole, with_whole}
-use Rattle.posix_laws.specs.Views.{KeepsView, need_of}
+use Rattle.crash_spec.specs.posix_laws.block_counts.Counts.{held_by, reserve_for}
+use Rattle.crash_spec.specs.posix_laws.posix_types.declared.call.Call.{Call}
+use Rattle.crash_spec.specs.posix_laws.posix_types.declared.call.Who.{Who}
+use Rattle.crash_spec.specs.posix_laws.posix_types.declared.handle.Handle.{Handle}
+use Rattle.crash_spec.specs.posix_laws.posix_types.declared.reply.Shape.{Shape}
+use Rattle.crash_spec.specs.posix_laws.posix_tables.declared.nodes.Node.{Node}
+use Rattle.crash_spec.specs.posix_laws.posix_tables.declared.open.Description.{Description}
+use Rattle.crash_spec.specs.posix_laws.posix_tables.Open.{Tables}
+use Rattle.crash_spec.specs.posix_laws.posix_tables.Room.{held}
+use Rattle.crash_spec.specs.posix_laws.posix_spec.Run.{after_call, Unfinished}
+use Rattle.crash_spec.specs.posix_laws.posix_spec.State.{Fits, room, State}
+use Rattle.crash_spec.specs.posix_laws.PutLaws.{LeavesWhole-step}
+use Rattle.crash_spec.specs.posix_laws.Puts.{LeavesWhole, PutsWhole, with_whole}
+use Rattle.crash_spec.specs.posix_laws.Views.{KeepsView, need_of}
 use Rattle.commute_laws.specs.Acted.{Change}
 use Rattle.commute_laws.specs.Counted.{held-exact, held-put}
 use Rattle.commute_laws.specs.Flights.{InFlight, KeepsView-seen}

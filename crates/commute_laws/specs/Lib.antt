@@ -15,10 +15,10 @@ pub mod Counted
 pub mod Leaves
 pub mod Rows
 pub mod OrdersLaws
-pub use Rattle.posix_laws.specs.block_counts
+pub use Rattle.crash_spec.specs.posix_laws.block_counts
 pub use Rattle.crash_spec.specs as crash_spec
 pub use Rattle.crash_spec.specs.list_laws
-pub use Rattle.posix_laws.specs as posix_laws
-pub use Rattle.posix_laws.specs.posix_spec
-pub use Rattle.posix_laws.specs.posix_types
-pub use Rattle.posix_laws.specs.posix_tables
+pub use Rattle.crash_spec.specs.posix_laws as posix_laws
+pub use Rattle.crash_spec.specs.posix_laws.posix_spec
+pub use Rattle.crash_spec.specs.posix_laws.posix_types
+pub use Rattle.crash_spec.specs.posix_laws.posix_tables

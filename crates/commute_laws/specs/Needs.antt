@@ -2,13 +2,13 @@
 use Rattle.std.specs.Prelude.{◌≡◌, ◌≢◌, ◌≤◌, ℕ, ◌+◌, List, [], ◌∷◌, ◌++◌, map, sum_by, refl}
 use Rattle.std.proofs.Common.{arith, ◌∙◌, sym, subst}
 use Rattle.std.proofs.lemmas.List.Sums.{sum_by-cons}
-use Rattle.posix_laws.specs.posix_types.declared.call.Call.{Call}
-use Rattle.posix_laws.specs.posix_types.declared.call.Who.{Who}
-use Rattle.posix_laws.specs.posix_spec.Put.{put_by}
-use Rattle.posix_laws.specs.posix_spec.Run.{after_call, Unfinished}
-use Rattle.posix_laws.specs.posix_spec.State.{room, State}
-use Rattle.posix_laws.specs.Puts.{PutsWhole}
-use Rattle.posix_laws.specs.Views.{AreAfforded, need_of}
+use Rattle.crash_spec.specs.posix_laws.posix_types.declared.call.Call.{Call}
+use Rattle.crash_spec.specs.posix_laws.posix_types.declared.call.Who.{Who}
+use Rattle.crash_spec.specs.posix_laws.posix_spec.Put.{put_by}
+use Rattle.crash_spec.specs.posix_laws.posix_spec.Run.{after_call, Unfinished}
+use Rattle.crash_spec.specs.posix_laws.posix_spec.State.{room, State}
+use Rattle.crash_spec.specs.posix_laws.Puts.{PutsWhole}
+use Rattle.crash_spec.specs.posix_laws.Views.{AreAfforded, need_of}
 use Rattle.commute_laws.specs.Flights.{InFlight, InFlight-step, LeavesAlone-put, need_of-step}
 use Rattle.commute_laws.specs.Frames.{AreThreads, LeavesAlone}
 use Rattle.commute_laws.specs.Rooms.{FitsBeside, room-step}

@@ -1,16 +1,16 @@
 -- Writes in flight and a call of others among them, in any order.
 use Rattle.std.specs.Prelude.{◌≡◌, ◌≢◌, ◌≤◌, ℕ, ◌+◌, Bool, true, false, cond, List, [], ◌∷◌, ◌++◌, map, Some, refl}
 use Rattle.std.proofs.Common.{arith, ap, ◌∙◌, sym, subst, inl, inr}
-use Rattle.posix_laws.specs.posix_types.declared.call.Call.{Call}
-use Rattle.posix_laws.specs.posix_types.declared.call.Who.{Who}
-use Rattle.posix_laws.specs.posix_types.declared.tree.TreeEntry.{TreeEntry}
-use Rattle.posix_laws.specs.posix_spec.Put.{put_by}
-use Rattle.posix_laws.specs.posix_spec.Run.{after_call, after_calls, Unfinished}
-use Rattle.posix_laws.specs.posix_spec.State.{room, State}
-use Rattle.posix_laws.specs.posix_spec.Step.{step}
+use Rattle.crash_spec.specs.posix_laws.posix_types.declared.call.Call.{Call}
+use Rattle.crash_spec.specs.posix_laws.posix_types.declared.call.Who.{Who}
+use Rattle.crash_spec.specs.posix_laws.posix_types.declared.tree.TreeEntry.{TreeEntry}
+use Rattle.crash_spec.specs.posix_laws.posix_spec.Put.{put_by}
+use Rattle.crash_spec.specs.posix_laws.posix_spec.Run.{after_call, after_calls, Unfinished}
+use Rattle.crash_spec.specs.posix_laws.posix_spec.State.{room, State}
+use Rattle.crash_spec.specs.posix_laws.posix_spec.Step.{step}
 use Rattle.crash_spec.specs.Strict.{StrictFrom}
-use Rattle.posix_laws.specs.Puts.{PutsWhole}
-use Rattle.posix_laws.specs.Views.{need_of}
+use Rattle.crash_spec.specs.posix_laws.Puts.{PutsWhole}
+use Rattle.crash_spec.specs.posix_laws.Views.{need_of}
 use Rattle.crash_spec.specs.Busy.{waits_for}
 use Rattle.commute_laws.specs.Acted.{Change}
 use Rattle.commute_laws.specs.Commutes.{takes}

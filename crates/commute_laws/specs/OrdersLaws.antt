@@ -1,22 +1,22 @@
 -- The chief laws of the orders of writes in flight and of what is counted, each as one statement.
 use Rattle.std.specs.Prelude.{◌≡◌, ◌≢◌, ◌<◌, ◌≤◌, ℕ, ◌+◌, List, ◌∷◌, [], ◌++◌, length, map, Some}
-use Rattle.posix_laws.specs.posix_types.declared.call.Call.{Call}
-use Rattle.posix_laws.specs.posix_types.declared.call.Who.{Who}
-use Rattle.posix_laws.specs.posix_types.declared.handle.Handle.{Handle}
-use Rattle.posix_laws.specs.posix_types.declared.reply.Reply.{Reply}
-use Rattle.posix_laws.specs.posix_types.declared.reply.What.{What}
-use Rattle.posix_laws.specs.posix_types.declared.tree.TreeEntry.{TreeEntry}
-use Rattle.posix_laws.specs.posix_tables.Open.{may_write}
-use Rattle.posix_laws.specs.posix_tables.Outcomes.{answer, first, no_space}
-use Rattle.posix_laws.specs.posix_tables.Room.{held, write_need}
-use Rattle.posix_laws.specs.posix_spec.FileRows.{content, write_rows}
-use Rattle.posix_laws.specs.posix_spec.Run.{after_call, Unfinished}
-use Rattle.posix_laws.specs.posix_spec.State.{Fits, room, State}
-use Rattle.posix_laws.specs.posix_spec.Step.{step}
+use Rattle.crash_spec.specs.posix_laws.posix_types.declared.call.Call.{Call}
+use Rattle.crash_spec.specs.posix_laws.posix_types.declared.call.Who.{Who}
+use Rattle.crash_spec.specs.posix_laws.posix_types.declared.handle.Handle.{Handle}
+use Rattle.crash_spec.specs.posix_laws.posix_types.declared.reply.Reply.{Reply}
+use Rattle.crash_spec.specs.posix_laws.posix_types.declared.reply.What.{What}
+use Rattle.crash_spec.specs.posix_laws.posix_types.declared.tree.TreeEntry.{TreeEntry}
+use Rattle.crash_spec.specs.posix_laws.posix_tables.Open.{may_write}
+use Rattle.crash_spec.specs.posix_laws.posix_tables.Outcomes.{answer, first, no_space}
+use Rattle.crash_spec.specs.posix_laws.posix_tables.Room.{held, write_need}
+use Rattle.crash_spec.specs.posix_laws.posix_spec.FileRows.{content, write_rows}
+use Rattle.crash_spec.specs.posix_laws.posix_spec.Run.{after_call, Unfinished}
+use Rattle.crash_spec.specs.posix_laws.posix_spec.State.{Fits, room, State}
+use Rattle.crash_spec.specs.posix_laws.posix_spec.Step.{step}
 use Rattle.crash_spec.specs.Strict.{StrictFrom}
-use Rattle.posix_laws.specs.RowLaws.{NoRow}
-use Rattle.posix_laws.specs.Puts.{LeavesWhole, PutsWhole}
-use Rattle.posix_laws.specs.Views.{AreAfforded, KeepsView, need_of}
+use Rattle.crash_spec.specs.posix_laws.RowLaws.{NoRow}
+use Rattle.crash_spec.specs.posix_laws.Puts.{LeavesWhole, PutsWhole}
+use Rattle.crash_spec.specs.posix_laws.Views.{AreAfforded, KeepsView, need_of}
 use Rattle.commute_laws.specs.Commutes.{takes}
 use Rattle.commute_laws.specs.Counted.{counted, room_beside}
 use Rattle.commute_laws.specs.Flights.{InFlight}

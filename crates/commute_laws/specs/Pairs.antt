@@ -1,27 +1,27 @@
 -- What a write in flight makes of a state, now and after a call of others, and that the two commute.
 use Rattle.std.specs.Prelude.{◌≡◌, ◌≢◌, ◌≤◌, ℕ, zero, suc, ◌+◌, cond, List, [], ◌∷◌, length, Option, Some, None, is_none, slice_get, slice_set, unwrap_or, option_map, refl}
 use Rattle.std.proofs.Common.{ap, ◌∙◌, sym, subst, inl, inr, arith, lit<}
-use Rattle.posix_laws.specs.posix_types.declared.call.Call.{Call}
-use Rattle.posix_laws.specs.posix_types.declared.call.Who.{Who}
-use Rattle.posix_laws.specs.posix_types.declared.handle.Handle.{Handle}
-use Rattle.posix_laws.specs.posix_tables.declared.nodes.File.{File}
-use Rattle.posix_laws.specs.posix_tables.declared.nodes.Node.{Node}
-use Rattle.posix_laws.specs.posix_tables.declared.open.Description.{Description}
-use Rattle.posix_laws.specs.posix_tables.Nodes.{node_at, published_of}
-use Rattle.posix_laws.specs.posix_tables.Names.{node_at_path, too_long}
-use Rattle.posix_laws.specs.posix_tables.Open.{key_of, opened, with_offset}
-use Rattle.posix_laws.specs.posix_tables.Outcomes.{first}
-use Rattle.posix_laws.specs.posix_tables.Room.{growth}
-use Rattle.posix_laws.specs.posix_spec.FileRows.{truncate_rows, write_rows, write_start}
-use Rattle.posix_laws.specs.posix_spec.Put.{put_by}
-use Rattle.posix_laws.specs.posix_spec.Run.{after_call, Unfinished}
-use Rattle.posix_laws.specs.posix_spec.State.{alone, room, State, with_file}
-use Rattle.posix_laws.specs.posix_spec.Step.{pwrite_done, step, stepped, Stepped, write_done, written}
-use Rattle.posix_laws.specs.RowLaws.{Accepts-from_rows, no_row, none_fits, put_at-Some, rows-from_Accepts}
-use Rattle.posix_laws.specs.PutLaws.{LeavesWhole-step}
-use Rattle.posix_laws.specs.Puts.{LeavesWhole, PutsWhole}
-use Rattle.posix_laws.specs.ViewLaws.{content-same, need_of-kept, write_start-same}
-use Rattle.posix_laws.specs.Views.{need_of, SameView}
+use Rattle.crash_spec.specs.posix_laws.posix_types.declared.call.Call.{Call}
+use Rattle.crash_spec.specs.posix_laws.posix_types.declared.call.Who.{Who}
+use Rattle.crash_spec.specs.posix_laws.posix_types.declared.handle.Handle.{Handle}
+use Rattle.crash_spec.specs.posix_laws.posix_tables.declared.nodes.File.{File}
+use Rattle.crash_spec.specs.posix_laws.posix_tables.declared.nodes.Node.{Node}
+use Rattle.crash_spec.specs.posix_laws.posix_tables.declared.open.Description.{Description}
+use Rattle.crash_spec.specs.posix_laws.posix_tables.Nodes.{node_at, published_of}
+use Rattle.crash_spec.specs.posix_laws.posix_tables.Names.{node_at_path, too_long}
+use Rattle.crash_spec.specs.posix_laws.posix_tables.Open.{key_of, opened, with_offset}
+use Rattle.crash_spec.specs.posix_laws.posix_tables.Outcomes.{first}
+use Rattle.crash_spec.specs.posix_laws.posix_tables.Room.{growth}
+use Rattle.crash_spec.specs.posix_laws.posix_spec.FileRows.{truncate_rows, write_rows, write_start}
+use Rattle.crash_spec.specs.posix_laws.posix_spec.Put.{put_by}
+use Rattle.crash_spec.specs.posix_laws.posix_spec.Run.{after_call, Unfinished}
+use Rattle.crash_spec.specs.posix_laws.posix_spec.State.{alone, room, State, with_file}
+use Rattle.crash_spec.specs.posix_laws.posix_spec.Step.{pwrite_done, step, stepped, Stepped, write_done, written}
+use Rattle.crash_spec.specs.posix_laws.RowLaws.{Accepts-from_rows, no_row, none_fits, put_at-Some, rows-from_Accepts}
+use Rattle.crash_spec.specs.posix_laws.PutLaws.{LeavesWhole-step}
+use Rattle.crash_spec.specs.posix_laws.Puts.{LeavesWhole, PutsWhole}
+use Rattle.crash_spec.specs.posix_laws.ViewLaws.{content-same, need_of-kept, write_start-same}
+use Rattle.crash_spec.specs.posix_laws.Views.{need_of, SameView}
 use Rattle.crash_spec.specs.Busy.{path_node, waits_for}
 use Rattle.commute_laws.specs.Acted.{acted, Change, handle-acted, option_either, space-acted, Touches, unknown-acted, view-acted, with_slot}
 use Rattle.commute_laws.specs.Bystanders.{not_not}

@@ -2,25 +2,25 @@
 use Rattle.std.specs.Prelude.{◌≡◌, ◌≤◌, ℕ, zero, suc, ◌+◌, ◌-◌, max, Bool, true, false, cond, ◌||◌, List, [], ◌∷◌, length, None, slice_set, refl}
 use Rattle.std.proofs.Common.{arith, ap, sym, subst}
 use Rattle.std.proofs.lemmas.List.Sums.{sum_by-cons, sum_by_push}
-use Rattle.posix_laws.specs.block_counts.Counts.{held_by, reserve_for}
-use Rattle.posix_laws.specs.posix_types.declared.call.Call.{Call}
-use Rattle.posix_laws.specs.posix_types.declared.call.Who.{Who}
-use Rattle.posix_laws.specs.posix_types.declared.handle.Flags.{Flags}
-use Rattle.posix_laws.specs.posix_types.declared.handle.Handle.{Handle}
-use Rattle.posix_laws.specs.posix_types.declared.reply.Shape.{Shape}
-use Rattle.posix_laws.specs.posix_tables.declared.nodes.Node.{Node}
-use Rattle.posix_laws.specs.posix_tables.Names.{directory_stands, exists_at, file_stands, is_named, number_at}
-use Rattle.posix_laws.specs.posix_tables.Nodes.{bytes_of, node_at, published_node}
-use Rattle.posix_laws.specs.posix_tables.Open.{closed, is_open}
-use Rattle.posix_laws.specs.posix_tables.Outcomes.{first}
-use Rattle.posix_laws.specs.posix_tables.Room.{growth, held}
-use Rattle.posix_laws.specs.posix_spec.FileRows.{content, file_number, truncate_rows, write_rows, write_start}
-use Rattle.posix_laws.specs.posix_spec.Run.{after_call, Unfinished}
-use Rattle.posix_laws.specs.posix_spec.State.{alone, made, room, space, State, swept, unnamed, with_file, with_node, with_published}
-use Rattle.posix_laws.specs.posix_spec.Step.{close_done, dup_done, empty_file, fsync_done, list_done, mkdir_done, open_done, opening, pread_done, pwrite_done, read_done, rename_done, renamed, rmdir_done, seek_done, stat_done, truncate_done, unlink_done, write_done, written}
-use Rattle.posix_laws.specs.FitsLaws.{length-overwritten, length-resized}
-use Rattle.posix_laws.specs.RowLaws.{stepped-keeps}
-use Rattle.posix_laws.specs.Views.{need_of}
+use Rattle.crash_spec.specs.posix_laws.block_counts.Counts.{held_by, reserve_for}
+use Rattle.crash_spec.specs.posix_laws.posix_types.declared.call.Call.{Call}
+use Rattle.crash_spec.specs.posix_laws.posix_types.declared.call.Who.{Who}
+use Rattle.crash_spec.specs.posix_laws.posix_types.declared.handle.Flags.{Flags}
+use Rattle.crash_spec.specs.posix_laws.posix_types.declared.handle.Handle.{Handle}
+use Rattle.crash_spec.specs.posix_laws.posix_types.declared.reply.Shape.{Shape}
+use Rattle.crash_spec.specs.posix_laws.posix_tables.declared.nodes.Node.{Node}
+use Rattle.crash_spec.specs.posix_laws.posix_tables.Names.{directory_stands, exists_at, file_stands, is_named, number_at}
+use Rattle.crash_spec.specs.posix_laws.posix_tables.Nodes.{bytes_of, node_at, published_node}
+use Rattle.crash_spec.specs.posix_laws.posix_tables.Open.{closed, is_open}
+use Rattle.crash_spec.specs.posix_laws.posix_tables.Outcomes.{first}
+use Rattle.crash_spec.specs.posix_laws.posix_tables.Room.{growth, held}
+use Rattle.crash_spec.specs.posix_laws.posix_spec.FileRows.{content, file_number, truncate_rows, write_rows, write_start}
+use Rattle.crash_spec.specs.posix_laws.posix_spec.Run.{after_call, Unfinished}
+use Rattle.crash_spec.specs.posix_laws.posix_spec.State.{alone, made, room, space, State, swept, unnamed, with_file, with_node, with_published}
+use Rattle.crash_spec.specs.posix_laws.posix_spec.Step.{close_done, dup_done, empty_file, fsync_done, list_done, mkdir_done, open_done, opening, pread_done, pwrite_done, read_done, rename_done, renamed, rmdir_done, seek_done, stat_done, truncate_done, unlink_done, write_done, written}
+use Rattle.crash_spec.specs.posix_laws.FitsLaws.{length-overwritten, length-resized}
+use Rattle.crash_spec.specs.posix_laws.RowLaws.{stepped-keeps}
+use Rattle.crash_spec.specs.posix_laws.Views.{need_of}
 
 -- If the call is accepted, what it takes fits beside so many blocks.
 abbrev pub FitsBeside : State → Unfinished → ℕ → Type 0

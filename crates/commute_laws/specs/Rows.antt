@@ -1,24 +1,24 @@
 -- A worked row: two threads write to two files, both writes stand in flight together, and a third thread calls meanwhile.
 use Rattle.std.specs.Prelude.{ℕ, ◌+◌, true, false, List, [], ◌∷◌, ◌++◌, map, refl}
 use Rattle.std.proofs.Common.{arith, lit≤}
-use Rattle.posix_laws.specs.posix_types.declared.call.Call.{Call}
-use Rattle.posix_laws.specs.posix_types.declared.call.Mode.{Mode}
-use Rattle.posix_laws.specs.posix_types.declared.call.Who.{Who}
-use Rattle.posix_laws.specs.posix_types.declared.handle.Flags.{Flags}
-use Rattle.posix_laws.specs.posix_types.declared.handle.Handle.{Handle}
-use Rattle.posix_laws.specs.posix_tables.Open.{binding_of, key_of, opened, with_binding, with_descriptor, with_opened}
-use Rattle.posix_laws.specs.posix_spec.FileRows.{write_rows}
-use Rattle.posix_laws.specs.posix_spec.Put.{put_by}
-use Rattle.posix_laws.specs.posix_spec.Run.{after_call, after_calls, Unfinished}
-use Rattle.posix_laws.specs.posix_spec.State.{made, State}
-use Rattle.posix_laws.specs.posix_spec.Step.{open_done, opening}
+use Rattle.crash_spec.specs.posix_laws.posix_types.declared.call.Call.{Call}
+use Rattle.crash_spec.specs.posix_laws.posix_types.declared.call.Mode.{Mode}
+use Rattle.crash_spec.specs.posix_laws.posix_types.declared.call.Who.{Who}
+use Rattle.crash_spec.specs.posix_laws.posix_types.declared.handle.Flags.{Flags}
+use Rattle.crash_spec.specs.posix_laws.posix_types.declared.handle.Handle.{Handle}
+use Rattle.crash_spec.specs.posix_laws.posix_tables.Open.{binding_of, key_of, opened, with_binding, with_descriptor, with_opened}
+use Rattle.crash_spec.specs.posix_laws.posix_spec.FileRows.{write_rows}
+use Rattle.crash_spec.specs.posix_laws.posix_spec.Put.{put_by}
+use Rattle.crash_spec.specs.posix_laws.posix_spec.Run.{after_call, after_calls, Unfinished}
+use Rattle.crash_spec.specs.posix_laws.posix_spec.State.{made, State}
+use Rattle.crash_spec.specs.posix_laws.posix_spec.Step.{open_done, opening}
 use Rattle.crash_spec.specs.Busy.{waits_for}
-use Rattle.posix_laws.specs.posix_types.declared.tree.TreeEntry.{TreeEntry}
+use Rattle.crash_spec.specs.posix_laws.posix_types.declared.tree.TreeEntry.{TreeEntry}
 use Rattle.crash_spec.specs.Strict.{StrictFrom}
-use Rattle.posix_laws.specs.posix_spec.Tree.{bare, default_shape}
-use Rattle.posix_laws.specs.posix_tables.NameRows.{open_rows}
-use Rattle.posix_laws.specs.posix_tables.Names.{node_at_path, walk, with_entry}
-use Rattle.posix_laws.specs.Views.{AreAfforded}
+use Rattle.crash_spec.specs.posix_laws.posix_spec.Tree.{bare, default_shape}
+use Rattle.crash_spec.specs.posix_laws.posix_tables.NameRows.{open_rows}
+use Rattle.crash_spec.specs.posix_laws.posix_tables.Names.{node_at_path, walk, with_entry}
+use Rattle.crash_spec.specs.posix_laws.Views.{AreAfforded}
 use Rattle.commute_laws.specs.Needs.{AreInFlight, unfinished_call, Flight, LetsAllBe}
 use Rattle.commute_laws.specs.Orders.{AreTwoEach, StrictFrom-last}
 

@@ -16,3 +16,4 @@ pub mod Values
 pub use Rattle.posix_laws.specs.posix_spec as posix_spec
 pub use Rattle.posix_laws.specs.list_laws as list_laws
 pub use Rattle.posix_laws.specs.posix_types as posix_types
+pub use Rattle.posix_laws.specs as posix_laws

@@ -82,5 +82,5 @@ pub fn rules_for_bytes_differ()
     ensures { ByteRows }
 {}
 
-pub use posix_spec::{Put, State};
+pub use posix_laws::{Put, State};
 pub use posix_types::{Call, Data, Item, Tree, TreeEntry, TreeNode, Who};

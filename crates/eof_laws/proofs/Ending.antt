@@ -9,25 +9,25 @@ use Rattle.file_table.specs.pm_model.ImageLaws.{IsImage-words_of}
 use Rattle.file_table.specs.pm_model.Images.{words_of}
 use Rattle.file_table.specs.layout_model.declared.lines.Inode.{Inode}
 use Rattle.file_table.specs.layout_model.declared.lines.Kind.TheVariants.{File, Free}
-use Rattle.k_plans.specs.image_model.Live.{is_directory}
-use Rattle.k_plans.specs.image_model.Volume.{extents, free_inode, inode, Volume}
+use Rattle.log_checkpoint.specs.k_plans.image_model.Live.{is_directory}
+use Rattle.log_checkpoint.specs.k_plans.image_model.Volume.{extents, free_inode, inode, Volume}
 use Rattle.file_table.specs.extent_model.declared.extent_words.Extent.{Extent}
 use Rattle.file_table.specs.extent_model.Extents.{disk_at}
 use Rattle.file_table.specs.file_overlay.declared.runs.Run.{Run}
 use Rattle.file_table.specs.Files.{ChangesFile, Files, runs_in, size_in}
-use Rattle.k_plans.specs.image_model.Reading.{inode_set}
-use Rattle.k_plans.specs.Making.{kind_of}
-use Rattle.k_plans.specs.Renaming.{renamed_over}
-use Rattle.k_plans.proofs.Wholes.{free-bare}
-use Rattle.k_plans.specs.k_split_model.ChangesChanges.{dropped, gone_node, new_node, renamed_over_directory, renamed_over_file}
-use Rattle.k_plans.specs.k_split_model.Spaces.{is_directory_in}
-use Rattle.k_plans.specs.k_tables.declared.tables.removing.Entry.{Entry}
+use Rattle.log_checkpoint.specs.k_plans.image_model.Reading.{inode_set}
+use Rattle.log_checkpoint.specs.k_plans.Making.{kind_of}
+use Rattle.log_checkpoint.specs.k_plans.Renaming.{renamed_over}
+use Rattle.log_checkpoint.proofs.k_plans_proofs.Wholes.{free-bare}
+use Rattle.log_checkpoint.specs.k_plans.k_split_model.ChangesChanges.{dropped, gone_node, new_node, renamed_over_directory, renamed_over_file}
+use Rattle.log_checkpoint.specs.k_plans.k_split_model.Spaces.{is_directory_in}
+use Rattle.log_checkpoint.specs.k_plans.k_tables.declared.tables.removing.Entry.{Entry}
 use Rattle.log_checkpoint.specs.list_laws.Members.{In}
-use Rattle.k_plans.specs.k_split_model.MapChangesChanges.{with_size}
-use Rattle.k_plans.specs.k_split_model.Taken.{with_map}
-use Rattle.k_plans.specs.volume_change_laws.CallLaws.{row_to}
-use Rattle.k_plans.specs.volume_change_laws.FoundLaws.{free-found}
-use Rattle.k_plans.specs.volume_laws.Changes.{extents-set_other, extents-set_same, inode-set_other, inode-set_same}
+use Rattle.log_checkpoint.specs.k_plans.k_split_model.MapChangesChanges.{with_size}
+use Rattle.log_checkpoint.specs.k_plans.k_split_model.Taken.{with_map}
+use Rattle.log_checkpoint.specs.k_plans.volume_change_laws.CallLaws.{row_to}
+use Rattle.log_checkpoint.specs.k_plans.volume_change_laws.FoundLaws.{free-found}
+use Rattle.log_checkpoint.specs.k_plans.volume_laws.Changes.{extents-set_other, extents-set_same, inode-set_other, inode-set_same}
 use Rattle.eof_laws.specs.Ends.{FilesEnd}
 use Rattle.eof_laws.specs.FilesLaws.{EndDropped, EndMade, EndRemoved, EndRenamed, EndSized, EndUnlinked, FreeHasNoMap}
 

@@ -6,22 +6,22 @@ use Rattle.file_table.specs.block_counts.Counts.{blocks_for}
 use Rattle.file_table.specs.pm_model.ImageLaws.{IsImage-words_of}
 use Rattle.file_table.specs.pm_model.Images.{words_of}
 use Rattle.file_table.specs.pm_model.Words.{Words}
-use Rattle.k_plans.specs.layout_model.declared.lines.Draft.{Draft}
-use Rattle.k_plans.specs.layout_model.declared.lines.Kind.{Kind}
-use Rattle.k_plans.specs.layout_model.declared.lines.Kind.TheVariants.{Directory, File, Free, Staging}
-use Rattle.k_plans.specs.layout_model.Journal.{journaled}
-use Rattle.k_plans.specs.layout_model.Places.{Geometry}
-use Rattle.k_plans.specs.image_model.Volume.{extents, inode, Volume}
+use Rattle.log_checkpoint.specs.k_plans.layout_model.declared.lines.Draft.{Draft}
+use Rattle.log_checkpoint.specs.k_plans.layout_model.declared.lines.Kind.{Kind}
+use Rattle.log_checkpoint.specs.k_plans.layout_model.declared.lines.Kind.TheVariants.{Directory, File, Free, Staging}
+use Rattle.log_checkpoint.specs.k_plans.layout_model.Journal.{journaled}
+use Rattle.log_checkpoint.specs.k_plans.layout_model.Places.{Geometry}
+use Rattle.log_checkpoint.specs.k_plans.image_model.Volume.{extents, inode, Volume}
 use Rattle.file_table.specs.extent_model.Extents.{disk_at}
 use Rattle.eof_laws.specs.Ends.{DraftEnds, FilesEnd}
 use Rattle.file_table.specs.file_overlay.declared.runs.Run.{Run}
 use Rattle.file_table.specs.Files.{runs_in, size_in}
-use Rattle.k_plans.specs.k_split_model.View.{View}
+use Rattle.log_checkpoint.specs.k_plans.k_split_model.View.{View}
 use Rattle.log_checkpoint.specs.list_laws.Members.{In}
 use Rattle.live_model.specs.posix_laws.FitsLaws.{length-overwritten}
-use Rattle.k_plans.specs.posix_tables.declared.nodes.Node.{Node}
-use Rattle.k_plans.specs.posix_tables.Nodes.{bytes_of, node_at}
-use Rattle.k_plans.specs.posix_tables.Open.{Tables}
+use Rattle.log_checkpoint.specs.k_plans.posix_tables.declared.nodes.Node.{Node}
+use Rattle.log_checkpoint.specs.k_plans.posix_tables.Nodes.{bytes_of, node_at}
+use Rattle.log_checkpoint.specs.k_plans.posix_tables.Open.{Tables}
 use Rattle.live_model.specs.posix_spec.State.{State}
 use Rattle.live_model.specs.Overlays.{IsOverlayOf, run_of}
 use Rattle.live_model.proofs.OverlaysOverlays.{lays_beside, lays_entry}

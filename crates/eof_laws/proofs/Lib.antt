@@ -2,4 +2,4 @@ pub mod Ending
 pub mod MapsMaps
 pub mod MapsFiles
 mod Finished
-pub use Rattle.k_plans.proofs as k_plans_proofs
+pub use Rattle.log_checkpoint.proofs.k_plans_proofs as k_plans_proofs

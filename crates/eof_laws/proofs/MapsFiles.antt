@@ -4,11 +4,11 @@ use Rattle.std.proofs.Common.{arith, ap, ◌∙◌, sym, subst, inl, inr, get_or
 use Rattle.std.proofs.lemmas.Bool.{cases_eq, cases_lt}
 use Rattle.std.proofs.lemmas.List.{get_or-set_other, get_or-set_same, set-get_or}
 use Rattle.file_table.specs.block_counts.Counts.{blocks_for}
-use Rattle.k_plans.specs.image_model.Volume.{Volume}
+use Rattle.log_checkpoint.specs.k_plans.image_model.Volume.{Volume}
 use Rattle.eof_laws.specs.Ends.{FilesEnd}
 use Rattle.file_table.specs.file_overlay.declared.runs.Run.{Run}
 use Rattle.file_table.specs.Files.{ChangesFile, Files, runs_in, size_in}
-use Rattle.k_plans.specs.k_split_model.View.{View}
+use Rattle.log_checkpoint.specs.k_plans.k_split_model.View.{View}
 use Rattle.log_checkpoint.specs.list_laws.Members.{In}
 use Rattle.log_checkpoint.specs.Gathers.{AreDone}
 use Rattle.log_checkpoint.proofs.staging_files_proofs.GiveUpLaws.{staging-file}

@@ -5,20 +5,20 @@ use Rattle.std.proofs.lemmas.Bool.{cases_eq, cases_lt}
 use Rattle.std.proofs.lemmas.Bool.Decides.{nat_tests}
 use Rattle.std.proofs.lemmas.List.{get_or-set_other, get_or-set_same, get_or_past, length-set}
 use Rattle.file_table.specs.block_counts.Counts.{blocks_for}
-use Rattle.k_plans.specs.layout_model.declared.lines.Inode.{Inode}
-use Rattle.k_plans.specs.layout_model.declared.lines.Kind.TheVariants.{File, Staging}
-use Rattle.k_plans.specs.image_model.Volume.{extents, free_inode, inode, Volume}
+use Rattle.log_checkpoint.specs.k_plans.layout_model.declared.lines.Inode.{Inode}
+use Rattle.log_checkpoint.specs.k_plans.layout_model.declared.lines.Kind.TheVariants.{File, Staging}
+use Rattle.log_checkpoint.specs.k_plans.image_model.Volume.{extents, free_inode, inode, Volume}
 use Rattle.file_table.specs.extent_model.declared.extent_words.Extent.{Extent}
 use Rattle.file_table.specs.extent_model.Extents.{disk_at, is_within}
 use Rattle.file_table.specs.extent_model.Maps.{IsPart}
 use Rattle.file_table.specs.file_overlay.declared.runs.Run.{Run}
 use Rattle.file_table.specs.Files.{Files, size_in}
 use Rattle.log_checkpoint.specs.fsync_relink.Publishes.{AreRelinked, IsPublishDone, move_of, size_before}
-use Rattle.k_plans.specs.k_split_model.View.{View}
+use Rattle.log_checkpoint.specs.k_plans.k_split_model.View.{View}
 use Rattle.log_checkpoint.specs.list_laws.Members.{In}
-use Rattle.k_plans.specs.k_split_model.MapChangesChanges.{aged, given_up, IsMoved, IsPreallocated, IsSized, with_length, with_size}
-use Rattle.k_plans.specs.k_split_model.declared.map_changes.moves.Move.{Move}
-use Rattle.k_plans.specs.k_split_model.Taken.{switched, with_map}
+use Rattle.log_checkpoint.specs.k_plans.k_split_model.MapChangesChanges.{aged, given_up, IsMoved, IsPreallocated, IsSized, with_length, with_size}
+use Rattle.log_checkpoint.specs.k_plans.k_split_model.declared.map_changes.moves.Move.{Move}
+use Rattle.log_checkpoint.specs.k_plans.k_split_model.Taken.{switched, with_map}
 use Rattle.log_checkpoint.specs.staging_files.GivesUp.{AreGivenUp}
 use Rattle.log_checkpoint.specs.staging_files.k_split.MapChanges.{is_free_in}
 

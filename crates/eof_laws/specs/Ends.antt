@@ -3,7 +3,7 @@ use Rattle.std.specs.Prelude.{◌≡◌, ◌≤◌, ◌+◌, ℕ, [], None}
 use Rattle.file_table.specs.block_counts.Counts.{blocks_for}
 use Rattle.file_table.specs.layout_model.declared.lines.Draft.{Draft}
 use Rattle.file_table.specs.layout_model.declared.lines.Kind.TheVariants.{File, Free}
-use Rattle.k_plans.specs.image_model.Volume.{extents, inode, Volume}
+use Rattle.log_checkpoint.specs.k_plans.image_model.Volume.{extents, inode, Volume}
 use Rattle.file_table.specs.extent_model.Extents.{disk_at}
 use Rattle.file_table.specs.file_overlay.declared.runs.Run.{Run}
 use Rattle.file_table.specs.Files.{Files, runs_in, size_in}

@@ -1,15 +1,15 @@
 -- That nothing lies past the end of a file stays so, each law as one statement.
 use Rattle.std.specs.Prelude.{◌<◌, ℕ, Bool, List, [], length, Option}
 use Rattle.file_table.specs.pm_model.declared.Cell.{Cell}
-use Rattle.k_plans.specs.image_model.Volume.{Volume}
+use Rattle.log_checkpoint.specs.k_plans.image_model.Volume.{Volume}
 use Rattle.file_table.specs.Files.{ChangesFile, Files}
-use Rattle.k_plans.specs.Making.{IsMade}
-use Rattle.k_plans.specs.Removing.{IsRemoved, IsUnlinked}
-use Rattle.k_plans.specs.Renaming.{IsRenamed}
-use Rattle.k_plans.specs.Whole.{IsWhole}
-use Rattle.k_plans.specs.k_split_model.ChangesChanges.{dropped}
-use Rattle.k_plans.specs.k_split_model.Stands.{Stands}
-use Rattle.k_plans.specs.k_split_model.MapChangesChanges.{IsSized}
+use Rattle.log_checkpoint.specs.k_plans.Making.{IsMade}
+use Rattle.log_checkpoint.specs.k_plans.Removing.{IsRemoved, IsUnlinked}
+use Rattle.log_checkpoint.specs.k_plans.Renaming.{IsRenamed}
+use Rattle.log_checkpoint.specs.k_plans.Whole.{IsWhole}
+use Rattle.log_checkpoint.specs.k_plans.k_split_model.ChangesChanges.{dropped}
+use Rattle.log_checkpoint.specs.k_plans.k_split_model.Stands.{Stands}
+use Rattle.log_checkpoint.specs.k_plans.k_split_model.MapChangesChanges.{IsSized}
 use Rattle.eof_laws.specs.Ends.{FilesEnd, FreeHaveNone}
 
 -- Where a device stands at a volume that keeps the rules, free inodes have no map;

@@ -1,11 +1,11 @@
 -- A write that is out, and once it is finished, each law as one statement.
 use Rattle.std.specs.Prelude.{◌≡◌, ◌≤◌, ℕ, Bool, List, [], ◌∷◌, ◌++◌}
-use Rattle.k_plans.specs.layout_model.Places.{Geometry}
+use Rattle.log_checkpoint.specs.k_plans.layout_model.Places.{Geometry}
 use Rattle.eof_laws.specs.Ends.{DraftEnds, FilesEnd}
 use Rattle.file_table.specs.Files.{size_in}
-use Rattle.k_plans.specs.k_split_model.View.{View}
+use Rattle.log_checkpoint.specs.k_plans.k_split_model.View.{View}
 use Rattle.log_checkpoint.specs.list_laws.Members.{In}
-use Rattle.k_plans.specs.posix_tables.Open.{Tables}
+use Rattle.log_checkpoint.specs.k_plans.posix_tables.Open.{Tables}
 use Rattle.live_model.specs.posix_spec.State.{State}
 use Rattle.live_model.specs.Standing.{Kept, JobOut, StandsAt}
 

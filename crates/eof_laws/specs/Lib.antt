@@ -5,22 +5,22 @@ pub mod FinishesLaws
 pub use Rattle.log_checkpoint.specs.block_io as block_io
 pub use Rattle.file_table.specs.block_counts
 pub use Rattle.log_checkpoint.specs.crash_spec
-pub use Rattle.k_plans.specs.image_model
+pub use Rattle.log_checkpoint.specs.k_plans.image_model
 pub use Rattle.file_table.specs.extent_model
 pub use Rattle.file_table.specs.file_overlay
 pub use Rattle.file_table.specs as file_table
 pub use Rattle.log_checkpoint.specs.k_tables as k_tables
-pub use Rattle.k_plans.specs.k_journal
-pub use Rattle.k_plans.specs as k_plans
-pub use Rattle.k_plans.specs.k_split_model
-pub use Rattle.k_plans.specs.layout_model
+pub use Rattle.log_checkpoint.specs.k_plans.k_journal
+pub use Rattle.log_checkpoint.specs.k_plans as k_plans
+pub use Rattle.log_checkpoint.specs.k_plans.k_split_model
+pub use Rattle.log_checkpoint.specs.k_plans.layout_model
 pub use Rattle.log_checkpoint.specs.list_laws as list_laws
 pub use Rattle.log_checkpoint.specs as log_checkpoint
 pub use Rattle.file_table.specs.pm_model
 pub use Rattle.log_checkpoint.specs.posix_laws
 pub use Rattle.log_checkpoint.specs.posix_spec
-pub use Rattle.k_plans.specs.posix_types
-pub use Rattle.k_plans.specs.posix_tables
-pub use Rattle.k_plans.specs.volume_laws
+pub use Rattle.log_checkpoint.specs.k_plans.posix_types
+pub use Rattle.log_checkpoint.specs.k_plans.posix_tables
+pub use Rattle.log_checkpoint.specs.k_plans.volume_laws
 pub use Rattle.log_checkpoint.specs.world_model
 pub use Rattle.live_model.specs.write_jobs as write_jobs

@@ -1,16 +1,16 @@
 -- Nothing comes to lie past the end of a file, each law as one statement.
 use Rattle.std.specs.Prelude.{◌≡◌, ◌≤◌, ◌<◌, ℕ, [], ◌∷◌, ◌++◌, length, None, Result, Ok}
 use Rattle.file_table.specs.block_counts.Counts.{blocks_for}
-use Rattle.k_plans.specs.layout_model.declared.lines.Draft.{Draft}
-use Rattle.k_plans.specs.layout_model.declared.lines.Kind.TheVariants.{File}
-use Rattle.k_plans.specs.image_model.Volume.{extents, inode, Volume}
+use Rattle.log_checkpoint.specs.k_plans.layout_model.declared.lines.Draft.{Draft}
+use Rattle.log_checkpoint.specs.k_plans.layout_model.declared.lines.Kind.TheVariants.{File}
+use Rattle.log_checkpoint.specs.k_plans.image_model.Volume.{extents, inode, Volume}
 use Rattle.file_table.specs.extent_model.Extents.{disk_at}
 use Rattle.eof_laws.specs.Ends.{DraftEnds, FilesEnd}
 use Rattle.file_table.specs.file_overlay.declared.runs.Run.{Run}
 use Rattle.file_table.specs.Files.{ChangesFile, Files, runs_in, size_in}
 use Rattle.log_checkpoint.specs.fsync_relink.Publishes.{IsPublishDone}
-use Rattle.k_plans.specs.k_journal.declared.outcomes.Commit.{Commit}
-use Rattle.k_plans.specs.k_split_model.View.{View}
+use Rattle.log_checkpoint.specs.k_plans.k_journal.declared.outcomes.Commit.{Commit}
+use Rattle.log_checkpoint.specs.k_plans.k_split_model.View.{View}
 use Rattle.log_checkpoint.specs.k_plans.Whole.{IsWhole}
 use Rattle.log_checkpoint.specs.Gathers.{IsGatherAnswer}
 use Rattle.log_checkpoint.specs.staging_files.declared.runs.StageFault.{StageFault}

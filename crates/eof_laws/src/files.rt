@@ -21,4 +21,4 @@ pub fn files_end_after_changes()
 {}
 
 pub use file_table::FileTable;
-pub use k_plans::{Commit, Geometry};
+pub use log_checkpoint::{Commit, Geometry};

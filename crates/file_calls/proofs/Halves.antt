@@ -32,8 +32,8 @@ use Rattle.eof_laws.specs.k_split_model.View.{View}
 use Rattle.live_step_laws.specs.k_split.declared.faults.KFault.{KFault}
 use Rattle.live_step_laws.specs.k_split.Answers.{IsAnswer, IsDone, IsPaid}
 use Rattle.live_step_laws.specs.k_split.Names.{IsDropAnswer, IsRenameAnswer, IsUnlinkAnswer, rename_row, unlink_row}
-use Rattle.k_split_laws.proofs.Cuts.{left_through}
-use Rattle.k_split_laws.specs.Left.{IsLeftOf}
+use Rattle.live_step_laws.proofs.k_split_laws_proofs.Cuts.{left_through}
+use Rattle.live_step_laws.specs.k_split_laws.Left.{IsLeftOf}
 use Rattle.live_step_laws.specs.open_files.Numbered.{IsTold}
 use Rattle.live_step_laws.proofs.open_files_proofs.Lookups.{same_open}
 use Rattle.eof_laws.specs.layout_model.Spelling.{AreSpelled}

@@ -15,7 +15,7 @@ mod SeekCalls
 mod Sizes
 pub mod ReadCalls
 pub use Rattle.eof_laws.proofs as eof_laws_proofs
-pub use Rattle.k_split_laws.proofs as k_split_laws_proofs
+pub use Rattle.live_step_laws.proofs.k_split_laws_proofs as k_split_laws_proofs
 pub use Rattle.live_step_laws.proofs.live_model_proofs
 pub use Rattle.live_step_laws.proofs as live_step_laws_proofs
 pub use Rattle.live_step_laws.proofs.open_files_proofs

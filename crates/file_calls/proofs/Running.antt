@@ -16,8 +16,8 @@ use Rattle.eof_laws.specs.k_split_model.Spaces.{volume_space}
 use Rattle.eof_laws.specs.k_split_model.View.{View}
 use Rattle.live_step_laws.specs.k_split.declared.faults.KFault.{KFault}
 use Rattle.live_step_laws.specs.k_split.Answers.{IsAnswer, IsCut, IsOff, IsPaid}
-use Rattle.k_split_laws.proofs.Cuts.{left_at, left_cut, left_same}
-use Rattle.k_split_laws.specs.Left.{IsLeftOf}
+use Rattle.live_step_laws.proofs.k_split_laws_proofs.Cuts.{left_at, left_cut, left_same}
+use Rattle.live_step_laws.specs.k_split_laws.Left.{IsLeftOf}
 use Rattle.live_step_laws.specs.open_files.Numbered.{numbered_as}
 use Rattle.posix_types.specs.declared.call.Call.{Call}
 use Rattle.posix_types.specs.declared.call.Who.{Who}

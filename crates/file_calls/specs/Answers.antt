@@ -13,7 +13,7 @@ use Rattle.eof_laws.specs.k_split_model.Spaces.{volume_space}
 use Rattle.eof_laws.specs.k_split_model.View.{View}
 use Rattle.live_step_laws.specs.k_split.declared.faults.KFault.{KFault}
 use Rattle.live_step_laws.specs.k_split.Looks.{IsFound}
-use Rattle.k_split_laws.specs.Left.{IsLeftOf}
+use Rattle.live_step_laws.specs.k_split_laws.Left.{IsLeftOf}
 use Rattle.open_files.specs.declared.files.faults.OpenFault.{OpenFault}
 use Rattle.posix_types.specs.declared.call.Call.{Call}
 use Rattle.posix_types.specs.declared.call.Who.{Who}

@@ -9,7 +9,7 @@ pub use Rattle.eof_laws.specs.extent_model
 pub use Rattle.eof_laws.specs.file_overlay
 pub use Rattle.live_step_laws.specs.file_reads
 pub use Rattle.eof_laws.specs.file_table
-pub use Rattle.k_split_laws.specs as k_split_laws
+pub use Rattle.live_step_laws.specs.k_split_laws as k_split_laws
 pub use Rattle.eof_laws.specs.k_split_model
 pub use Rattle.eof_laws.specs.layout_model
 pub use Rattle.open_files.specs.list_laws

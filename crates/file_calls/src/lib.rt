@@ -19,6 +19,10 @@ mod calls;
 mod names;
 
 pub use calls::{fsync, pread, read, run_call, seek};
+pub use eof_laws::{
+    Commit, FilledJob, Geometry, Job, Staging, files_end_after_changes_of_maps,
+    finished_writes_end_with_their_files, put_lines,
+};
 pub use names::{
     Collection, FileTable, KSplit, NoMemory, OpenFiles, Opened, Told, after_fault, answered, close,
     dup, list, mkdir, open, read_bytes, rename, rmdir, stat, unlink,

@@ -16,8 +16,7 @@ mod opens;
 mod outcomes;
 
 pub use eof_laws::FileTable;
-pub use k_split::KSplit;
-pub use live_step_laws::{Collection, read_bytes};
+pub use live_step_laws::{Collection, KSplit, read_bytes};
 pub use looks::{list, stat};
 pub use names::{mkdir, rename, rmdir, unlink};
 pub use open_files::{OpenFiles, Opened};

@@ -17,3 +17,4 @@ pub use fields::{put_u16, put_u32, put_u64, u16_at, u32_at, u64_at};
 pub use layout::{
     Geometry, SuperFault, read_superblock, regions_are_apart, superblock_is_read_back,
 };
+pub use layout_model::{Inode, Kind};

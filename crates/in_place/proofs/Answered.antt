@@ -6,8 +6,8 @@ use Rattle.write_plan.specs.live_model.file_table.Files.{Files, runs_in, size_in
 use Rattle.in_place.specs.CleansLaws.{KeepsCleaned, StandsCleaned}
 use Rattle.in_place.specs.ZerosLaws.{KeepsZeroed, StandsZeroed, ZeroedReadZero}
 use Rattle.in_place.specs.Zeros.{block_end, staged_place}
-use Rattle.k_split_laws.specs.k_journal.declared.outcomes.Commit.{Commit}
-use Rattle.k_split_laws.specs.k_split_model.View.{View}
+use Rattle.live_step_laws.specs.k_split_laws.k_journal.declared.outcomes.Commit.{Commit}
+use Rattle.live_step_laws.specs.k_split_laws.k_split_model.View.{View}
 use Rattle.in_place.specs.Gaps.{HasFile, IsCleared, IsZeroed}
 use Rattle.in_place.proofs.Blocks.{cleared_mapped, cleared_staged}
 use Rattle.in_place.proofs.Lost.{loses_mapped, loses_staged}

@@ -1,9 +1,9 @@
 -- A block is zeroed.
 use Rattle.std.specs.Prelude.{◌≡◌, ◌≤◌, ◌<◌, ◌/◌, ◌%◌, ℕ, length, Option, Some, None, refl}
 use Rattle.std.proofs.Common.{arith, ap, ◌∙◌, sym}
-use Rattle.k_split_laws.specs.image_model.Volume.{extents, Volume}
+use Rattle.live_step_laws.specs.k_split_laws.image_model.Volume.{extents, Volume}
 use Rattle.write_plan.specs.live_model.data_route.Reads.{source_by}
-use Rattle.k_split_laws.specs.extent_model.Extents.{disk_at}
+use Rattle.live_step_laws.specs.k_split_laws.extent_model.Extents.{disk_at}
 use Rattle.write_plan.specs.file_overlay.Runs.{staged_at}
 use Rattle.write_plan.specs.live_model.file_reads.Reads.{block_of}
 use Rattle.write_plan.specs.live_model.file_table.Files.{Files, runs_in, size_in}
@@ -11,9 +11,9 @@ use Rattle.in_place.specs.CleansLaws.{StandsCleaned}
 use Rattle.in_place.specs.ZerosLaws.{StandsToZero, StandsZeroed, ZeroedReadZero}
 use Rattle.in_place.specs.Zeros.{block_end, MayZero, ReadZero, staged_place}
 use Rattle.in_place.proofs.Zeroed.{staging_there}
-use Rattle.k_split_laws.specs.k_split_model.View.{View}
-use Rattle.k_split_laws.specs.k_split.Bytes.{IsOverwriteDone, tail_zeros}
-use Rattle.k_split_laws.specs.k_split.Loans.{MayLend}
+use Rattle.live_step_laws.specs.k_split_laws.k_split_model.View.{View}
+use Rattle.live_step_laws.specs.k_split_laws.k_split.Bytes.{IsOverwriteDone, tail_zeros}
+use Rattle.live_step_laws.specs.k_split_laws.k_split.Loans.{MayLend}
 use Rattle.live_step_laws.specs.world_model.TreeRules.{used_below}
 use Rattle.live_step_laws.specs.world_model.Stands.{is_used}
 use Rattle.in_place.specs.Gaps.{Clears, HasFile, with_files}

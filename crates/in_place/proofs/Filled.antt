@@ -42,8 +42,8 @@ use Rattle.live_step_laws.specs.FillsLaws.{AreOfOthers, FillsAsAsked, KeepsFille
 use Rattle.live_step_laws.specs.k_plans.Whole.{IsWhole}
 use Rattle.live_step_laws.proofs.Backs.{kept_over}
 use Rattle.live_step_laws.proofs.k_plans_proofs.FreeCounts.{unwaiting-counted}
-use Rattle.k_split_laws.specs.Left.{IsLeftOf}
-use Rattle.k_split_laws.proofs.Cuts.{left_at, left_map_cut, left_through}
+use Rattle.live_step_laws.specs.k_split_laws.Left.{IsLeftOf}
+use Rattle.live_step_laws.proofs.k_split_laws_proofs.Cuts.{left_at, left_map_cut, left_through}
 use Rattle.write_plan.specs.file_overlay.Runs.{staged_at}
 use Rattle.in_place.specs.Gaps.{Stays, with_files}
 use Rattle.in_place.proofs.Lost.{kept_off, left_off}

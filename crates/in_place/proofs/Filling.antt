@@ -28,7 +28,7 @@ use Rattle.live_step_laws.specs.world_model.Stands.{is_used}
 use Rattle.live_step_laws.specs.world_model.TreeRules.{used_below}
 use Rattle.live_step_laws.specs.FillsLaws.{FillsAs, FillsAsAsked}
 use Rattle.live_step_laws.proofs.k_plans_proofs.FreeCounts.{unwaiting-counted}
-use Rattle.fsync_relink.proofs.RelinkLaws.{has-chain}
+use Rattle.live_step_laws.proofs.fsync_relink_proofs.RelinkLaws.{has-chain}
 use Rattle.write_plan.specs.file_overlay.Runs.{staged_at}
 use Rattle.write_plan.specs.eof_laws.Ends.{FilesEnd}
 use Rattle.in_place.specs.Gaps.{Stays}

@@ -20,7 +20,7 @@ mod Onward
 mod Entries
 mod Filling
 mod Filled
-pub use Rattle.k_split_laws.proofs as k_split_laws_proofs
+pub use Rattle.live_step_laws.proofs.k_split_laws_proofs as k_split_laws_proofs
 pub use Rattle.write_plan.proofs.live_model_proofs
 pub use Rattle.live_step_laws.proofs as live_step_laws_proofs
 pub use Rattle.write_plan.proofs as write_plan_proofs

@@ -2,22 +2,22 @@
 use Rattle.std.specs.Prelude.{◌≡◌, ◌≢◌, ◌⊎◌, ◌≤◌, ◌/◌, ℕ, Bool, List, [], ◌∷◌, Some}
 use Rattle.std.proofs.Common.{sym, subst, inl, inr, ◌∙◌}
 use Rattle.live_step_laws.specs.world_image_laws.Settings.{setting_run}
-use Rattle.k_split_laws.specs.layout_model.Journal.{IsSound}
-use Rattle.k_split_laws.specs.layout_model.Places.{Geometry}
+use Rattle.live_step_laws.specs.k_split_laws.layout_model.Journal.{IsSound}
+use Rattle.live_step_laws.specs.k_split_laws.layout_model.Places.{Geometry}
 use Rattle.write_plan.specs.file_overlay.Runs.{staged_at}
 use Rattle.write_plan.specs.live_model.file_table.Files.{Files, runs_in, size_in}
 use Rattle.in_place.specs.CleansLaws.{KeepsCleaned}
 use Rattle.in_place.specs.ZerosLaws.{KeepsZeroed}
 use Rattle.in_place.specs.Zeros.{staged_place}
-use Rattle.k_split_laws.specs.k_split_model.View.{View}
-use Rattle.k_split_laws.specs.k_split.Bytes.{IsOverwriteCut, tail_zeros}
-use Rattle.k_split_laws.specs.list_laws.Members.{In}
-use Rattle.k_split_laws.specs.Left.{IsLeftOf}
-use Rattle.k_split_laws.proofs.Cuts.{left_at, left_overwritten, left_same}
-use Rattle.k_split_laws.specs.posix_types.declared.item.Item.{Item}
-use Rattle.k_split_laws.specs.posix_tables.Open.{Tables}
-use Rattle.k_split_laws.specs.posix_spec.Run.{Unfinished, run}
-use Rattle.k_split_laws.specs.posix_spec.State.{State}
+use Rattle.live_step_laws.specs.k_split_laws.k_split_model.View.{View}
+use Rattle.live_step_laws.specs.k_split_laws.k_split.Bytes.{IsOverwriteCut, tail_zeros}
+use Rattle.live_step_laws.specs.k_split_laws.list_laws.Members.{In}
+use Rattle.live_step_laws.specs.k_split_laws.Left.{IsLeftOf}
+use Rattle.live_step_laws.proofs.k_split_laws_proofs.Cuts.{left_at, left_overwritten, left_same}
+use Rattle.live_step_laws.specs.k_split_laws.posix_types.declared.item.Item.{Item}
+use Rattle.live_step_laws.specs.k_split_laws.posix_tables.Open.{Tables}
+use Rattle.live_step_laws.specs.k_split_laws.posix_spec.Run.{Unfinished, run}
+use Rattle.live_step_laws.specs.k_split_laws.posix_spec.State.{State}
 use Rattle.live_step_laws.specs.world_image_laws.Changed.{sound_headed}
 use Rattle.live_step_laws.specs.world_image_laws.Back.{IsKeptBack}
 use Rattle.live_step_laws.specs.world_image_laws.Flights.{promise_at_begin}

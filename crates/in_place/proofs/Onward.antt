@@ -25,9 +25,9 @@ use Rattle.live_step_laws.specs.world_model.Jobs.{live_claims}
 use Rattle.live_step_laws.specs.world_model.Stands.{is_used, number}
 use Rattle.live_step_laws.specs.world_model.TreeRules.{used_below}
 use Rattle.live_step_laws.specs.world_step_laws.Parts.{FliesWith}
-use Rattle.k_split_laws.specs.k_journal.Commits.{TakesAStep}
-use Rattle.k_split_laws.specs.Left.{IsLeftOf}
-use Rattle.k_split_laws.proofs.Cuts.{left_through}
+use Rattle.live_step_laws.specs.k_split_laws.k_journal.Commits.{TakesAStep}
+use Rattle.live_step_laws.specs.k_split_laws.Left.{IsLeftOf}
+use Rattle.live_step_laws.proofs.k_split_laws_proofs.Cuts.{left_through}
 use Rattle.posix_laws.proofs.ByteLaws.{index-overwritten}
 use Rattle.posix_laws.specs.posix_tables.Bytes.{overwritten}
 use Rattle.in_place.specs.Placing.{CanPlace, LosesPlacing, Places, PlacesOn, Placing, SameBeside}

@@ -7,16 +7,16 @@ use Rattle.std.proofs.lemmas.Bool.Decides.{nat_tests}
 use Rattle.std.proofs.lemmas.List.{reverse-append}
 use Rattle.std.proofs.lemmas.List.Folds.{find-append}
 use Rattle.live_step_laws.specs.block_counts.Counts.{blocks_for}
-use Rattle.k_split_laws.specs.pm_model.Powers.{Steps, Supply}
-use Rattle.k_split_laws.specs.pm_model.PowerLaws.{Steps-none}
-use Rattle.k_split_laws.specs.layout_model.Journal.{journaled}
-use Rattle.k_split_laws.specs.layout_model.declared.lines.Kind.TheVariants.{File}
-use Rattle.k_split_laws.specs.image_model.Content.{byte_in}
-use Rattle.k_split_laws.specs.image_model.Volume.{extents, inode, Volume}
-use Rattle.k_split_laws.specs.extent_model.Extents.{disk_at, is_within}
-use Rattle.k_split_laws.specs.k_journal.declared.outcomes.Commit.{Commit}
-use Rattle.k_split_laws.specs.k_split_model.View.{View}
-use Rattle.k_split_laws.specs.list_laws.Members.{In}
+use Rattle.live_step_laws.specs.k_split_laws.pm_model.Powers.{Steps, Supply}
+use Rattle.live_step_laws.specs.k_split_laws.pm_model.PowerLaws.{Steps-none}
+use Rattle.live_step_laws.specs.k_split_laws.layout_model.Journal.{journaled}
+use Rattle.live_step_laws.specs.k_split_laws.layout_model.declared.lines.Kind.TheVariants.{File}
+use Rattle.live_step_laws.specs.k_split_laws.image_model.Content.{byte_in}
+use Rattle.live_step_laws.specs.k_split_laws.image_model.Volume.{extents, inode, Volume}
+use Rattle.live_step_laws.specs.k_split_laws.extent_model.Extents.{disk_at, is_within}
+use Rattle.live_step_laws.specs.k_split_laws.k_journal.declared.outcomes.Commit.{Commit}
+use Rattle.live_step_laws.specs.k_split_laws.k_split_model.View.{View}
+use Rattle.live_step_laws.specs.k_split_laws.list_laws.Members.{In}
 use Rattle.write_plan.specs.eof_laws.Ends.{FilesEnd}
 use Rattle.write_plan.specs.file_overlay.declared.runs.Run.{Run}
 use Rattle.write_plan.specs.file_overlay.Runs.{has_block, last_run, place_in}

@@ -30,7 +30,7 @@ use Rattle.in_place.specs.Holes.{IsPresent}
 use Rattle.in_place.specs.Placing.{CanPlace, IsOnePiece, IsPieceAnswer, IsPlaceAnswer, LosesPlacing, Places, Placing, SameBeside}
 use Rattle.in_place.specs.PlaceLaws.{LieAt}
 use Rattle.in_place.proofs.Placed.{piece_is_cut, piece_is_off, piece_is_placed, piece_leaves}
-use Rattle.k_split_laws.specs.k_journal.declared.outcomes.Commit.{Commit}
+use Rattle.live_step_laws.specs.k_split_laws.k_journal.declared.outcomes.Commit.{Commit}
 
 -- ---- steps
 

@@ -4,16 +4,16 @@ use Rattle.std.proofs.Common.{arith, ap, ◌∙◌, sym, inl, inr}
 use Rattle.std.proofs.lemmas.Bool.{cases_eq, cases_lt}
 use Rattle.std.proofs.lemmas.List.{get_or-replicate, length-replicate}
 use Rattle.std.proofs.lemmas.Option.{same_Some}
-use Rattle.fsync_relink.specs.pm_model.Words.{byte_of, Words}
-use Rattle.fsync_relink.specs.extent_model.Extents.{disk_at}
-use Rattle.fsync_relink.specs.layout_model.Journal.{IsSound, journaled}
-use Rattle.fsync_relink.specs.layout_model.PlaceLaws.{behind_log-words}
-use Rattle.fsync_relink.specs.layout_model.Places.{Geometry, is_data_block}
+use Rattle.live_step_laws.specs.fsync_relink.pm_model.Words.{byte_of, Words}
+use Rattle.live_step_laws.specs.fsync_relink.extent_model.Extents.{disk_at}
+use Rattle.live_step_laws.specs.fsync_relink.layout_model.Journal.{IsSound, journaled}
+use Rattle.live_step_laws.specs.fsync_relink.layout_model.PlaceLaws.{behind_log-words}
+use Rattle.live_step_laws.specs.fsync_relink.layout_model.Places.{Geometry, is_data_block}
 use Rattle.live_step_laws.specs.image_model.Placed.{block_at, IsOutside}
 use Rattle.live_step_laws.specs.image_model.Volume.{extents, Volume}
-use Rattle.fsync_relink.specs.block_io.Overwrites.{IsBeside, IsBesideBlocks, IsOverwrittenWhole, StandsIn}
+use Rattle.live_step_laws.specs.fsync_relink.block_io.Overwrites.{IsBeside, IsBesideBlocks, IsOverwrittenWhole, StandsIn}
 use Rattle.live_step_laws.specs.k_split_model.Stands.{IsOldOrNew}
-use Rattle.fsync_relink.specs.k_split.Bytes.{IsWrittenOver, tail_zeros, zeros_behind}
+use Rattle.live_step_laws.specs.fsync_relink.k_split.Bytes.{IsWrittenOver, tail_zeros, zeros_behind}
 use Rattle.live_step_laws.specs.volume_laws.ImageLaws.{journaled-other}
 use Rattle.live_step_laws.specs.volume_laws.LineWords.{data_word, data_word-not_journaled}
 use Rattle.live_step_laws.specs.volume_laws.OwnerLaws.{IsOnePlace, one_owner}

@@ -1,12 +1,12 @@
 -- Zeros that are written over bytes.
 use Rattle.std.specs.Prelude.{◌≡◌, ◌⊎◌, ◌-◌, ◌/◌, ◌%◌, ℕ, List, replicate, Some, Err}
 use Rattle.std.proofs.Common.{arith, ap, ◌∙◌, sym, inl, inr}
-use Rattle.k_split_laws.specs.extent_model.Extents.{disk_at}
-use Rattle.k_split_laws.specs.image_model.Volume.{extents, Volume}
+use Rattle.live_step_laws.specs.k_split_laws.extent_model.Extents.{disk_at}
+use Rattle.live_step_laws.specs.k_split_laws.image_model.Volume.{extents, Volume}
 use Rattle.in_place.specs.Zeros.{staged_place}
-use Rattle.k_split_laws.specs.k_split_model.View.{View}
-use Rattle.k_split_laws.specs.k_split.Bytes.{IsOverwriteAnswer, IsOverwriteCut, tail_zeros, zeros_behind}
-use Rattle.k_split_laws.specs.k_split.declared.faults.KFault.{KFault}
+use Rattle.live_step_laws.specs.k_split_laws.k_split_model.View.{View}
+use Rattle.live_step_laws.specs.k_split_laws.k_split.Bytes.{IsOverwriteAnswer, IsOverwriteCut, tail_zeros, zeros_behind}
+use Rattle.live_step_laws.specs.k_split_laws.k_split.declared.faults.KFault.{KFault}
 
 -- where they are not written, the power went
 pub lost_of : (x p : ℕ) (bytes : List ℕ) (k l : View) (fault : KFault) → IsOverwriteAnswer x p bytes k l (Err fault) → (l.cells ≡ k.cells) ⊎ IsOverwriteCut x p bytes k l

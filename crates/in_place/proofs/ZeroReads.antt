@@ -2,20 +2,20 @@
 use Rattle.std.specs.Prelude.{◌≡◌, ◌⊎◌, ◌≤◌, ◌<◌, ◌-◌, ◌/◌, ◌%◌, ℕ, Bool, true, Option, Some, None, refl}
 use Rattle.std.proofs.Common.{arith, ap, ◌∙◌, sym, subst, inl, inr}
 use Rattle.std.proofs.lemmas.Bool.{cases_lt}
-use Rattle.fsync_relink.specs.pm_model.Images.{ComesFrom, IsImage}
-use Rattle.fsync_relink.specs.pm_model.Words.{Words}
-use Rattle.fsync_relink.specs.layout_model.declared.lines.Kind.TheVariants.{File}
-use Rattle.fsync_relink.specs.layout_model.Journal.{IsSound, journaled}
-use Rattle.fsync_relink.specs.layout_model.Places.{Geometry, is_data_block}
+use Rattle.live_step_laws.specs.fsync_relink.pm_model.Images.{ComesFrom, IsImage}
+use Rattle.live_step_laws.specs.fsync_relink.pm_model.Words.{Words}
+use Rattle.live_step_laws.specs.fsync_relink.layout_model.declared.lines.Kind.TheVariants.{File}
+use Rattle.live_step_laws.specs.fsync_relink.layout_model.Journal.{IsSound, journaled}
+use Rattle.live_step_laws.specs.fsync_relink.layout_model.Places.{Geometry, is_data_block}
 use Rattle.live_step_laws.specs.image_model.Content.{byte_in, disk_of}
 use Rattle.live_step_laws.specs.image_model.Volume.{extents, inode, Volume}
-use Rattle.fsync_relink.specs.block_io.Overwrites.{IsOverwrittenWhole}
+use Rattle.live_step_laws.specs.fsync_relink.block_io.Overwrites.{IsOverwrittenWhole}
 use Rattle.write_plan.specs.live_model.file_reads.Reads.{block_in}
 use Rattle.write_plan.specs.live_model.file_table.Files.{runs_in, size_in}
 use Rattle.live_step_laws.specs.k_split_model.View.{View}
-use Rattle.fsync_relink.specs.k_split.Bytes.{tail_zeros}
+use Rattle.live_step_laws.specs.fsync_relink.k_split.Bytes.{tail_zeros}
 use Rattle.write_plan.proofs.live_model_proofs.OverlaysOverlays.{overlay_is_log}
-use Rattle.fsync_relink.specs.posix_tables.Open.{Tables}
+use Rattle.live_step_laws.specs.fsync_relink.posix_tables.Open.{Tables}
 use Rattle.live_step_laws.specs.posix_spec.State.{State}
 use Rattle.live_step_laws.specs.world_image_laws.Changed.{sound_headed}
 use Rattle.live_step_laws.specs.world_model.Lent.{disk_of-in_data}

@@ -4,19 +4,19 @@ use Rattle.std.proofs.Common.{arith, ap, ◌∙◌, sym, subst}
 use Rattle.std.proofs.lemmas.Bool.{and_parts}
 use Rattle.std.proofs.lemmas.Bool.Decides.{Decides-eqb, nat_tests}
 use Rattle.live_step_laws.specs.world_image_laws.Settings.{setting_run}
-use Rattle.fsync_relink.specs.pm_model.declared.Cell.{Cell}
-use Rattle.fsync_relink.specs.pm_model.Cells.{cell, is_lent, is_single}
-use Rattle.fsync_relink.specs.pm_model.ImageLaws.{IsImage-words_of}
-use Rattle.fsync_relink.specs.pm_model.Images.{ComesFrom, IsImage, words_of}
-use Rattle.fsync_relink.specs.pm_model.Words.{Words}
+use Rattle.live_step_laws.specs.fsync_relink.pm_model.declared.Cell.{Cell}
+use Rattle.live_step_laws.specs.fsync_relink.pm_model.Cells.{cell, is_lent, is_single}
+use Rattle.live_step_laws.specs.fsync_relink.pm_model.ImageLaws.{IsImage-words_of}
+use Rattle.live_step_laws.specs.fsync_relink.pm_model.Images.{ComesFrom, IsImage, words_of}
+use Rattle.live_step_laws.specs.fsync_relink.pm_model.Words.{Words}
 use Rattle.write_plan.specs.live_model.data_route.declared.reads.Source.TheVariants.{Staged}
 use Rattle.write_plan.specs.live_model.data_route.Reads.{source_by, source_of}
-use Rattle.fsync_relink.specs.extent_model.Extents.{disk_at, is_within}
-use Rattle.fsync_relink.specs.layout_model.declared.lines.Draft.{Draft}
-use Rattle.fsync_relink.specs.layout_model.Entries.{is_draft}
-use Rattle.fsync_relink.specs.layout_model.Journal.{is_journal_word, IsSound, journaled}
-use Rattle.fsync_relink.specs.layout_model.PlaceLaws.{behind_log-words}
-use Rattle.fsync_relink.specs.layout_model.Places.{Geometry, is_data_block, is_journaled_line, log_block, log_line}
+use Rattle.live_step_laws.specs.fsync_relink.extent_model.Extents.{disk_at, is_within}
+use Rattle.live_step_laws.specs.fsync_relink.layout_model.declared.lines.Draft.{Draft}
+use Rattle.live_step_laws.specs.fsync_relink.layout_model.Entries.{is_draft}
+use Rattle.live_step_laws.specs.fsync_relink.layout_model.Journal.{is_journal_word, IsSound, journaled}
+use Rattle.live_step_laws.specs.fsync_relink.layout_model.PlaceLaws.{behind_log-words}
+use Rattle.live_step_laws.specs.fsync_relink.layout_model.Places.{Geometry, is_data_block, is_journaled_line, log_block, log_line}
 use Rattle.live_step_laws.specs.image_model.Content.{entry_of_block, size_of}
 use Rattle.live_step_laws.specs.image_model.Volume.{extents, Volume}
 use Rattle.write_plan.specs.file_overlay.Runs.{place_in}
@@ -26,14 +26,14 @@ use Rattle.write_plan.specs.live_model.Flying.{IsFlying}
 use Rattle.write_plan.proofs.live_model_proofs.Readable.{flies_readable}
 use Rattle.live_step_laws.specs.k_split_model.Stands.{Stands}
 use Rattle.live_step_laws.specs.k_split_model.View.{View}
-use Rattle.fsync_relink.specs.k_split.Bytes.{IsWrittenOver, Overwrites, tail_zeros}
-use Rattle.fsync_relink.specs.k_split.Loans.{MayLend}
-use Rattle.fsync_relink.specs.k_split.Order.{IsInOrder}
-use Rattle.fsync_relink.specs.list_laws.Filters.{filter-In}
-use Rattle.fsync_relink.specs.list_laws.Members.{In}
+use Rattle.live_step_laws.specs.fsync_relink.k_split.Bytes.{IsWrittenOver, Overwrites, tail_zeros}
+use Rattle.live_step_laws.specs.fsync_relink.k_split.Loans.{MayLend}
+use Rattle.live_step_laws.specs.fsync_relink.k_split.Order.{IsInOrder}
+use Rattle.live_step_laws.specs.fsync_relink.list_laws.Filters.{filter-In}
+use Rattle.live_step_laws.specs.fsync_relink.list_laws.Members.{In}
 use Rattle.write_plan.proofs.live_model_proofs.OverlaysOverlays.{source_is_log}
 use Rattle.write_plan.specs.live_model.Overlays.{run_of}
-use Rattle.fsync_relink.specs.posix_tables.Open.{Tables}
+use Rattle.live_step_laws.specs.fsync_relink.posix_tables.Open.{Tables}
 use Rattle.live_step_laws.specs.posix_spec.Run.{run}
 use Rattle.live_step_laws.specs.posix_spec.State.{State}
 use Rattle.write_plan.specs.live_model.staging_files.Keeps.{Agrees}

@@ -3,15 +3,15 @@ use Rattle.std.specs.Prelude.{◌≡◌, ◌≢◌, ◌⊎◌, ◌≤◌, ◌<�
 use Rattle.std.proofs.Common.{arith, ap, ◌∙◌, sym, subst, inl, inr}
 use Rattle.std.proofs.lemmas.Bool.{and_parts}
 use Rattle.std.proofs.lemmas.Bool.Decides.{Decides-eqb, nat_tests}
-use Rattle.fsync_relink.specs.pm_model.Words.{byte_of, Words}
-use Rattle.fsync_relink.specs.extent_model.Extents.{disk_at, is_within}
-use Rattle.fsync_relink.specs.layout_model.declared.lines.Draft.{Draft}
+use Rattle.live_step_laws.specs.fsync_relink.pm_model.Words.{byte_of, Words}
+use Rattle.live_step_laws.specs.fsync_relink.extent_model.Extents.{disk_at, is_within}
+use Rattle.live_step_laws.specs.fsync_relink.layout_model.declared.lines.Draft.{Draft}
 use Rattle.live_step_laws.specs.image_model.Content.{byte_in, disk_by, disk_of, entry_of_block, size_of}
 use Rattle.live_step_laws.specs.image_model.Volume.{extents, inode, Volume}
-use Rattle.fsync_relink.specs.posix_tables.Nodes.{node_at}
+use Rattle.live_step_laws.specs.fsync_relink.posix_tables.Nodes.{node_at}
 use Rattle.live_step_laws.specs.posix_spec.State.{State}
-use Rattle.fsync_relink.specs.list_laws.Filters.{filter-In}
-use Rattle.fsync_relink.specs.list_laws.Members.{In}
+use Rattle.live_step_laws.specs.fsync_relink.list_laws.Filters.{filter-In}
+use Rattle.live_step_laws.specs.fsync_relink.list_laws.Members.{In}
 use Rattle.live_step_laws.specs.world_model.Jobs.{Job, JobsStand, live_claims}
 use Rattle.live_step_laws.specs.world_model.Stands.{is_used, IsUsed, LogStands, number, Stands}
 use Rattle.live_step_laws.specs.world_model.JobLaws.{live_used}

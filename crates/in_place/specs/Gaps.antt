@@ -1,21 +1,21 @@
 -- What zeroing the bytes behind the end of a file, in its last block, leaves, where a write begins in a later one.
 use Rattle.std.specs.Prelude.{◌≡◌, ◌≢◌, ◌⊎◌, ◌*◌, ◌/◌, ℕ, Bool, true, false, List, [], ◌∷◌, length}
-use Rattle.k_split_laws.specs.pm_model.Frames.{KeepsSingle, SameLent}
-use Rattle.k_split_laws.specs.pm_model.Powers.{is_on, Supply}
-use Rattle.k_split_laws.specs.layout_model.declared.lines.Kind.TheVariants.{File}
-use Rattle.k_split_laws.specs.layout_model.Places.{Geometry}
-use Rattle.k_split_laws.specs.image_model.Volume.{inode}
+use Rattle.live_step_laws.specs.k_split_laws.pm_model.Frames.{KeepsSingle, SameLent}
+use Rattle.live_step_laws.specs.k_split_laws.pm_model.Powers.{is_on, Supply}
+use Rattle.live_step_laws.specs.k_split_laws.layout_model.declared.lines.Kind.TheVariants.{File}
+use Rattle.live_step_laws.specs.k_split_laws.layout_model.Places.{Geometry}
+use Rattle.live_step_laws.specs.k_split_laws.image_model.Volume.{inode}
 use Rattle.write_plan.specs.live_model.file_table.Files.{Files, size_in}
 use Rattle.in_place.specs.Zeros.{ReadZero}
-use Rattle.k_split_laws.specs.k_journal.declared.outcomes.Commit.{Commit}
-use Rattle.k_split_laws.specs.k_split_model.View.{View}
-use Rattle.k_split_laws.specs.k_split.Bytes.{IsOverwriteCut, IsOverwriteDone, tail_zeros}
-use Rattle.k_split_laws.specs.list_laws.Members.{In}
-use Rattle.k_split_laws.specs.Left.{IsLeftOf}
-use Rattle.k_split_laws.specs.posix_types.declared.item.Item.{Item}
-use Rattle.k_split_laws.specs.posix_tables.Open.{Tables}
-use Rattle.k_split_laws.specs.posix_spec.Run.{Unfinished, run}
-use Rattle.k_split_laws.specs.posix_spec.State.{State}
+use Rattle.live_step_laws.specs.k_split_laws.k_journal.declared.outcomes.Commit.{Commit}
+use Rattle.live_step_laws.specs.k_split_laws.k_split_model.View.{View}
+use Rattle.live_step_laws.specs.k_split_laws.k_split.Bytes.{IsOverwriteCut, IsOverwriteDone, tail_zeros}
+use Rattle.live_step_laws.specs.k_split_laws.list_laws.Members.{In}
+use Rattle.live_step_laws.specs.k_split_laws.Left.{IsLeftOf}
+use Rattle.live_step_laws.specs.k_split_laws.posix_types.declared.item.Item.{Item}
+use Rattle.live_step_laws.specs.k_split_laws.posix_tables.Open.{Tables}
+use Rattle.live_step_laws.specs.k_split_laws.posix_spec.Run.{Unfinished, run}
+use Rattle.live_step_laws.specs.k_split_laws.posix_spec.State.{State}
 use Rattle.live_step_laws.specs.world_model.Jobs.{Job}
 use Rattle.write_plan.specs.live_model.Losses.{KeepsWhenLost}
 use Rattle.write_plan.specs.live_model.Standing.{Kept, StandsAt}

@@ -1,24 +1,24 @@
 -- Blocks that a range of a file lacks, and what filling them leaves.
 use Rattle.std.specs.Prelude.{◌≡◌, ◌≢◌, ◌⊎◌, ◌<◌, ◌≤◌, ◌+◌, ◌-◌, ◌&&◌, ℕ, Bool, true, false, List, [], ◌∷◌, length, count_by, is_none, Some, None, IsSome, Result, Ok, Err}
 use Rattle.std.specs.List.{range_with_len}
-use Rattle.k_split_laws.specs.pm_model.Frames.{KeepsSingle, SameLent}
-use Rattle.k_split_laws.specs.pm_model.Powers.{is_on, Supply}
-use Rattle.k_split_laws.specs.extent_model.Extents.{disk_at}
+use Rattle.live_step_laws.specs.k_split_laws.pm_model.Frames.{KeepsSingle, SameLent}
+use Rattle.live_step_laws.specs.k_split_laws.pm_model.Powers.{is_on, Supply}
+use Rattle.live_step_laws.specs.k_split_laws.extent_model.Extents.{disk_at}
 use Rattle.live_step_laws.specs.block_counts.Counts.{chains_for}
 use Rattle.write_plan.specs.file_overlay.Runs.{staged_at}
 use Rattle.write_plan.specs.file_overlay.declared.runs.Run.{Run}
-use Rattle.k_split_laws.specs.layout_model.Places.{reserve}
-use Rattle.k_split_laws.specs.image_model.Volume.{extents, inode, Volume}
+use Rattle.live_step_laws.specs.k_split_laws.layout_model.Places.{reserve}
+use Rattle.live_step_laws.specs.k_split_laws.image_model.Volume.{extents, inode, Volume}
 use Rattle.live_step_laws.specs.world_write_laws.HolesLaws.{KeepsLine}
 use Rattle.write_plan.specs.eof_laws.Ends.{FilesEnd}
 use Rattle.write_plan.specs.live_model.file_table.Files.{Files, runs_in}
-use Rattle.k_split_laws.specs.k_split_model.View.{View}
-use Rattle.k_split_laws.specs.k_split.MapChanges.{free_blocks_in}
+use Rattle.live_step_laws.specs.k_split_laws.k_split_model.View.{View}
+use Rattle.live_step_laws.specs.k_split_laws.k_split.MapChanges.{free_blocks_in}
 use Rattle.write_plan.specs.live_model.staging_files.Keeps.{Staged}
-use Rattle.k_split_laws.specs.Left.{IsLeftOf}
-use Rattle.k_split_laws.specs.posix_types.declared.item.Item.{Item}
-use Rattle.k_split_laws.specs.posix_spec.Run.{run, Unfinished}
-use Rattle.k_split_laws.specs.posix_spec.State.{State}
+use Rattle.live_step_laws.specs.k_split_laws.Left.{IsLeftOf}
+use Rattle.live_step_laws.specs.k_split_laws.posix_types.declared.item.Item.{Item}
+use Rattle.live_step_laws.specs.k_split_laws.posix_spec.Run.{run, Unfinished}
+use Rattle.live_step_laws.specs.k_split_laws.posix_spec.State.{State}
 use Rattle.write_plan.specs.live_model.Losses.{KeepsWhenLost}
 use Rattle.in_place.specs.Gaps.{HasFile, Stays}
 use Rattle.std.specs.declared.alloc.AllocError.{AllocError}

@@ -10,7 +10,7 @@ pub use Rattle.write_plan.specs.live_model.data_route
 pub use Rattle.write_plan.specs.file_overlay
 pub use Rattle.write_plan.specs.live_model.file_reads
 pub use Rattle.write_plan.specs.live_model.file_table
-pub use Rattle.k_split_laws.specs as k_split_laws
+pub use Rattle.live_step_laws.specs.k_split_laws as k_split_laws
 pub use Rattle.live_step_laws.specs.layout_model
 pub use Rattle.live_step_laws.specs.list_laws
 pub use Rattle.write_plan.specs.live_model

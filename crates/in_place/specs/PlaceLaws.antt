@@ -1,20 +1,20 @@
 -- One piece of bytes in place, in the map of a file or in a staging file, each law as one statement.
 use Rattle.std.specs.Prelude.{◌≡◌, ◌<◌, ◌≤◌, ◌+◌, ◌++◌, ◌/◌, ◌%◌, ℕ, Bool, List, length, IsSome, slice_index}
-use Rattle.k_split_laws.specs.pm_model.declared.Cell.{Cell}
-use Rattle.k_split_laws.specs.pm_model.Images.{Follows}
-use Rattle.k_split_laws.specs.extent_model.Extents.{disk_at}
-use Rattle.k_split_laws.specs.layout_model.declared.lines.Draft.{Draft}
-use Rattle.k_split_laws.specs.layout_model.declared.lines.Kind.TheVariants.{File}
-use Rattle.k_split_laws.specs.layout_model.Places.{Geometry}
-use Rattle.k_split_laws.specs.image_model.Content.{disk_of}
-use Rattle.k_split_laws.specs.image_model.Volume.{extents, inode, Volume}
-use Rattle.k_split_laws.specs.k_split_model.View.{View}
-use Rattle.k_split_laws.specs.k_split.Bytes.{IsOverwriteCut, IsOverwriteDone, Overwrites}
-use Rattle.k_split_laws.specs.posix_types.declared.item.Item.{Item}
-use Rattle.k_split_laws.specs.posix_tables.Bytes.{overwritten}
-use Rattle.k_split_laws.specs.posix_tables.Open.{Tables}
-use Rattle.k_split_laws.specs.posix_spec.Run.{run}
-use Rattle.k_split_laws.specs.posix_spec.State.{State}
+use Rattle.live_step_laws.specs.k_split_laws.pm_model.declared.Cell.{Cell}
+use Rattle.live_step_laws.specs.k_split_laws.pm_model.Images.{Follows}
+use Rattle.live_step_laws.specs.k_split_laws.extent_model.Extents.{disk_at}
+use Rattle.live_step_laws.specs.k_split_laws.layout_model.declared.lines.Draft.{Draft}
+use Rattle.live_step_laws.specs.k_split_laws.layout_model.declared.lines.Kind.TheVariants.{File}
+use Rattle.live_step_laws.specs.k_split_laws.layout_model.Places.{Geometry}
+use Rattle.live_step_laws.specs.k_split_laws.image_model.Content.{disk_of}
+use Rattle.live_step_laws.specs.k_split_laws.image_model.Volume.{extents, inode, Volume}
+use Rattle.live_step_laws.specs.k_split_laws.k_split_model.View.{View}
+use Rattle.live_step_laws.specs.k_split_laws.k_split.Bytes.{IsOverwriteCut, IsOverwriteDone, Overwrites}
+use Rattle.live_step_laws.specs.k_split_laws.posix_types.declared.item.Item.{Item}
+use Rattle.live_step_laws.specs.k_split_laws.posix_tables.Bytes.{overwritten}
+use Rattle.live_step_laws.specs.k_split_laws.posix_tables.Open.{Tables}
+use Rattle.live_step_laws.specs.k_split_laws.posix_spec.Run.{run}
+use Rattle.live_step_laws.specs.k_split_laws.posix_spec.State.{State}
 use Rattle.live_step_laws.specs.world_model.Jobs.{Job, live_claims}
 use Rattle.live_step_laws.specs.world_image_laws.Back.{IsKeptBackAmong}
 use Rattle.write_plan.specs.live_model.file_table.Files.{Files}

@@ -1,28 +1,28 @@
 -- A call that writes bytes of its file where they lie, as far as it came, and what a further part of it leaves.
 use Rattle.std.specs.Prelude.{◌≡◌, ◌≢◌, ◌⊎◌, ◌<◌, ◌≤◌, ◌+◌, ◌*◌, ◌/◌, ◌++◌, ℕ, None, Some, IsSome, true, List, length, slice_index}
-use Rattle.k_split_laws.specs.pm_model.Frames.{KeepsSingle, SameLent}
-use Rattle.k_split_laws.specs.pm_model.Images.{Follows}
-use Rattle.k_split_laws.specs.pm_model.Words.{byte_of, Words}
-use Rattle.k_split_laws.specs.layout_model.Journal.{journaled}
-use Rattle.k_split_laws.specs.layout_model.declared.lines.Draft.{Draft}
-use Rattle.k_split_laws.specs.layout_model.Places.{Geometry, is_data_block}
-use Rattle.k_split_laws.specs.image_model.Content.{disk_of}
-use Rattle.k_split_laws.specs.layout_model.declared.lines.Kind.TheVariants.{File}
-use Rattle.k_split_laws.specs.image_model.Volume.{inode, Volume}
-use Rattle.k_split_laws.specs.k_journal.declared.outcomes.Commit.{Commit}
-use Rattle.k_split_laws.specs.k_split_model.View.{View}
-use Rattle.k_split_laws.specs.k_split.Bytes.{IsOverwriteCut, IsOverwriteDone}
-use Rattle.k_split_laws.specs.list_laws.Members.{In}
-use Rattle.k_split_laws.specs.posix_types.declared.call.Mode.{Mode}
-use Rattle.k_split_laws.specs.posix_types.declared.item.Item.{Item}
-use Rattle.k_split_laws.specs.posix_tables.Bytes.{overwritten}
-use Rattle.k_split_laws.specs.posix_tables.Open.{Tables}
-use Rattle.k_split_laws.specs.posix_spec.Run.{run}
-use Rattle.k_split_laws.specs.posix_spec.State.{State}
+use Rattle.live_step_laws.specs.k_split_laws.pm_model.Frames.{KeepsSingle, SameLent}
+use Rattle.live_step_laws.specs.k_split_laws.pm_model.Images.{Follows}
+use Rattle.live_step_laws.specs.k_split_laws.pm_model.Words.{byte_of, Words}
+use Rattle.live_step_laws.specs.k_split_laws.layout_model.Journal.{journaled}
+use Rattle.live_step_laws.specs.k_split_laws.layout_model.declared.lines.Draft.{Draft}
+use Rattle.live_step_laws.specs.k_split_laws.layout_model.Places.{Geometry, is_data_block}
+use Rattle.live_step_laws.specs.k_split_laws.image_model.Content.{disk_of}
+use Rattle.live_step_laws.specs.k_split_laws.layout_model.declared.lines.Kind.TheVariants.{File}
+use Rattle.live_step_laws.specs.k_split_laws.image_model.Volume.{inode, Volume}
+use Rattle.live_step_laws.specs.k_split_laws.k_journal.declared.outcomes.Commit.{Commit}
+use Rattle.live_step_laws.specs.k_split_laws.k_split_model.View.{View}
+use Rattle.live_step_laws.specs.k_split_laws.k_split.Bytes.{IsOverwriteCut, IsOverwriteDone}
+use Rattle.live_step_laws.specs.k_split_laws.list_laws.Members.{In}
+use Rattle.live_step_laws.specs.k_split_laws.posix_types.declared.call.Mode.{Mode}
+use Rattle.live_step_laws.specs.k_split_laws.posix_types.declared.item.Item.{Item}
+use Rattle.live_step_laws.specs.k_split_laws.posix_tables.Bytes.{overwritten}
+use Rattle.live_step_laws.specs.k_split_laws.posix_tables.Open.{Tables}
+use Rattle.live_step_laws.specs.k_split_laws.posix_spec.Run.{run}
+use Rattle.live_step_laws.specs.k_split_laws.posix_spec.State.{State}
 use Rattle.live_step_laws.specs.crash_spec.Sync.{file_bytes, IsPartOf}
 use Rattle.live_step_laws.specs.commute_laws.Needs.{Flight}
 use Rattle.live_step_laws.specs.world_step_laws.Parts.{FliesWith, part_of}
-use Rattle.k_split_laws.specs.Left.{IsLeftOf}
+use Rattle.live_step_laws.specs.k_split_laws.Left.{IsLeftOf}
 use Rattle.live_step_laws.specs.world_model.Jobs.{Job, live_claims}
 use Rattle.live_step_laws.specs.world_model.Stands.{number}
 use Rattle.live_step_laws.specs.world_image_laws.Back.{IsKeptBackAmong}

@@ -1,16 +1,16 @@
 -- Bytes of a file that read zero, and what zeroes them in place.
 use Rattle.std.specs.Prelude.{◌≡◌, ◌≢◌, ◌≤◌, ◌<◌, ◌+◌, ◌*◌, ◌/◌, ◌%◌, ℕ, List, Some}
-use Rattle.fsync_relink.specs.pm_model.Images.{IsImage}
-use Rattle.fsync_relink.specs.pm_model.Words.{Words}
-use Rattle.fsync_relink.specs.layout_model.Journal.{journaled}
-use Rattle.fsync_relink.specs.layout_model.declared.lines.Kind.TheVariants.{File}
+use Rattle.live_step_laws.specs.fsync_relink.pm_model.Images.{IsImage}
+use Rattle.live_step_laws.specs.fsync_relink.pm_model.Words.{Words}
+use Rattle.live_step_laws.specs.fsync_relink.layout_model.Journal.{journaled}
+use Rattle.live_step_laws.specs.fsync_relink.layout_model.declared.lines.Kind.TheVariants.{File}
 use Rattle.live_step_laws.specs.image_model.Content.{byte_in}
 use Rattle.live_step_laws.specs.image_model.Volume.{inode}
 use Rattle.write_plan.specs.file_overlay.Runs.{staged_at}
 use Rattle.write_plan.specs.live_model.file_reads.Reads.{block_in}
 use Rattle.write_plan.specs.live_model.file_table.Files.{Files, runs_in, size_in}
 use Rattle.live_step_laws.specs.k_split_model.View.{View}
-use Rattle.fsync_relink.specs.list_laws.Members.{In}
+use Rattle.live_step_laws.specs.fsync_relink.list_laws.Members.{In}
 use Rattle.live_step_laws.specs.world_model.Jobs.{Job}
 use Rattle.write_plan.specs.live_model.Standing.{Kept}
 

@@ -1,16 +1,16 @@
 -- Blocks behind the end of a file are zeroed while writes are in flight, each law as one statement.
 use Rattle.std.specs.Prelude.{◌≡◌, ◌<◌, ◌/◌, ◌%◌, ℕ, Bool, List, [], ◌∷◌, length}
-use Rattle.fsync_relink.specs.layout_model.declared.lines.Kind.TheVariants.{File}
-use Rattle.fsync_relink.specs.layout_model.Places.{Geometry}
+use Rattle.live_step_laws.specs.fsync_relink.layout_model.declared.lines.Kind.TheVariants.{File}
+use Rattle.live_step_laws.specs.fsync_relink.layout_model.Places.{Geometry}
 use Rattle.live_step_laws.specs.image_model.Volume.{extents, inode}
-use Rattle.fsync_relink.specs.extent_model.Extents.{disk_at}
+use Rattle.live_step_laws.specs.fsync_relink.extent_model.Extents.{disk_at}
 use Rattle.write_plan.specs.live_model.file_reads.Reads.{block_in}
 use Rattle.write_plan.specs.live_model.file_table.Files.{runs_in}
 use Rattle.live_step_laws.specs.k_split_model.View.{View}
-use Rattle.fsync_relink.specs.k_split.Bytes.{IsOverwriteCut, IsOverwriteDone, tail_zeros}
-use Rattle.fsync_relink.specs.k_split.Loans.{MayLend}
-use Rattle.fsync_relink.specs.posix_types.declared.item.Item.{Item}
-use Rattle.fsync_relink.specs.posix_tables.Open.{Tables}
+use Rattle.live_step_laws.specs.fsync_relink.k_split.Bytes.{IsOverwriteCut, IsOverwriteDone, tail_zeros}
+use Rattle.live_step_laws.specs.fsync_relink.k_split.Loans.{MayLend}
+use Rattle.live_step_laws.specs.fsync_relink.posix_types.declared.item.Item.{Item}
+use Rattle.live_step_laws.specs.fsync_relink.posix_tables.Open.{Tables}
 use Rattle.live_step_laws.specs.posix_spec.Run.{Unfinished, run}
 use Rattle.live_step_laws.specs.posix_spec.State.{State}
 use Rattle.write_plan.specs.live_model.Losses.{KeepsWhenLost}

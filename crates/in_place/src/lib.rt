@@ -16,8 +16,10 @@
 mod placing;
 mod tails;
 
+pub use live_step_laws::{FilledJob, KSplit, StageRun, Staging, settle_blocks};
 pub use placing::{Holes, fill_absent, present_blocks_are_found, put_in_place};
 pub use tails::{
     Commit, FileTable, blocks_are_zeroed_in_flight, clear_gap, kept_numbers_are_those_of_the_state,
     room_by, the_end_of_a_file_is_cleaned_in_flight, truncate_row,
 };
+pub use write_plan::{OpenFiles, move_by};

@@ -10,13 +10,13 @@
 #![tactic(auto)]
 
 ghost use Rattle.std.specs.Prelude.{◌≡◌, ◌<◌, ℕ, List, length, slice_index, true, Some};
-ghost use Rattle.layout_model.specs.LineLaws.{FitsInode, IsInodeLine};
-ghost use Rattle.layout_model.specs.Lines.{code_of_kind, kind_of_code, has_map_or_none, is_inode, encode_inode, decode_inode};
-ghost use Rattle.layout_model.specs.declared.lines.Inode.{Inode};
+ghost use Rattle.image_layout.specs.layout_model.LineLaws.{FitsInode, IsInodeLine};
+ghost use Rattle.image_layout.specs.layout_model.Lines.{code_of_kind, kind_of_code, has_map_or_none, is_inode, encode_inode, decode_inode};
+ghost use Rattle.image_layout.specs.layout_model.declared.lines.Inode.{Inode};
 
 use block_counts::LONGEST_FILE;
 use image_layout::{put_u32, put_u64, u32_at, u64_at};
-pub use layout_model::{Inode, Kind};
+pub use image_layout::{Geometry, Inode, Kind};
 
 // The greatest order of an entry of the log.
 const MOST_APPLIED: u64 = 1 << 63;

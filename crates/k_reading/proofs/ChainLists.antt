@@ -2,13 +2,13 @@
 use Rattle.std.proofs.Common.{◌≡◌, ℕ, ◌+◌, ◌*◌, ◌<◌, ◌≤◌, List, [], ◌∷◌, ◌++◌, length, get_or, refl, sym, ◌∙◌, ap, arith, inl, inr, subst, length-append}
 use Rattle.std.proofs.lemmas.Bool.{cases_eq}
 use Rattle.std.proofs.lemmas.List.{ext_get_or, get_or_at, get_or_append_left}
-use Rattle.image_layout.specs.pm_model.Words.{Words}
-use Rattle.image_layout.specs.layout_model.Places.{Geometry}
+use Rattle.k_inodes.specs.image_layout.pm_model.Words.{Words}
+use Rattle.k_inodes.specs.image_layout.layout_model.Places.{Geometry}
 use Rattle.block_pool.specs.extent_model.declared.extent_words.Extent.{Extent}
 use Rattle.k_inodes.specs.layout_model.declared.lines.Inode.{Inode}
-use Rattle.image_model.specs.Reading.{Reads}
-use Rattle.image_model.specs.Standing.{IsChain}
-use Rattle.image_model.specs.Volume.{Volume, free_inode, inode, chain, extents}
+use Rattle.map_chain.specs.image_model.Reading.{Reads}
+use Rattle.map_chain.specs.image_model.Standing.{IsChain}
+use Rattle.map_chain.specs.image_model.Volume.{Volume, free_inode, inode, chain, extents}
 use Rattle.k_reading.specs.Tables.{IsFound, AreFound}
 
 pub found-none : (f : Words) (size : ℕ) (inodes : List Inode) (chains : List (List ℕ)) (maps : List (List Extent))

@@ -2,18 +2,18 @@
 use Rattle.std.proofs.Common.{◌≡◌, ℕ, ◌<◌, true, List, [], All, get_or, replicate, None, sym, ◌∙◌, ap, subst, arith}
 use Rattle.std.proofs.lemmas.Bool.{both_ways}
 use Rattle.std.proofs.lemmas.List.{get_or-replicate, length-replicate}
-use Rattle.image_layout.specs.pm_model.Words.{Words}
-use Rattle.image_layout.specs.layout_model.Places.{Geometry, IsGeometry, is_data_block, first_data, data_blocks}
+use Rattle.k_inodes.specs.image_layout.pm_model.Words.{Words}
+use Rattle.k_inodes.specs.image_layout.layout_model.Places.{Geometry, IsGeometry, is_data_block, first_data, data_blocks}
 use Rattle.block_pool.specs.extent_model.declared.extent_words.Extent.{Extent}
 use Rattle.k_inodes.specs.layout_model.Fresh.{fresh}
 use Rattle.k_inodes.specs.layout_model.Names.{Rows, row, is_entry}
 use Rattle.k_inodes.specs.layout_model.Tables.{IsKeyed}
-use Rattle.image_model.specs.FreshVolume.{fresh_volume}
-use Rattle.image_model.specs.Volume.{Volume, volume}
+use Rattle.map_chain.specs.image_model.FreshVolume.{fresh_volume}
+use Rattle.map_chain.specs.image_model.Volume.{Volume, volume}
 use Rattle.block_pool.specs.FreeSets.{LiesWithin}
 use Rattle.image_laws.specs.volume_laws.ReadingLaws.{reads-volume}
 use Rattle.image_laws.specs.FreshLaws.{fresh-reads, row-fresh}
-use Rattle.image_model.specs.Reading.{Reads}
+use Rattle.map_chain.specs.image_model.Reading.{Reads}
 use Rattle.k_reading.specs.Pools.{AreInData}
 
 pub volume-fresh : (g : Geometry) (f : Words) → IsGeometry g → f ≡ fresh g → volume g f ≡ fresh_volume g

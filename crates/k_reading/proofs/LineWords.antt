@@ -4,8 +4,8 @@ use Rattle.std.proofs.Math.Path.{fun_ext}
 use Rattle.std.proofs.lemmas.Bool.{cases_eq, cases_lt, cond-true, cond-false, eq-eqb, ne_eqb}
 use Rattle.std.proofs.lemmas.List.{get_or-append_right, get_or_append_left, get_or-take, get_or-drop, length-take-le, get_or_past, get_or-replicate, length-replicate}
 use Rattle.std.specs.Prelude.{◌==◌}
-use Rattle.image_layout.specs.pm_model.Bytes.{word_at-same, word_at-past}
-use Rattle.image_layout.specs.pm_model.Words.{Words, word_at, with_line}
+use Rattle.k_inodes.specs.image_layout.pm_model.Bytes.{word_at-same, word_at-past}
+use Rattle.k_inodes.specs.image_layout.pm_model.Words.{Words, word_at, with_line}
 use borrow.Rule.Slice.PartMut.{put_mid}
 
 -- a byte of the part that was written, before it and behind it

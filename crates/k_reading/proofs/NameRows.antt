@@ -4,13 +4,13 @@ use Rattle.std.specs.Prelude.{slice_set}
 use Rattle.std.proofs.lemmas.Bool.{cases_eq, cases_lt, both_ways}
 use Rattle.std.proofs.lemmas.List.{ext_get_or, get_or_past, get_or-replicate, length-replicate, get_or-set_same, get_or-set_other, length-set}
 use Rattle.std.proofs.lemmas.List.FromFn.{get_or-map-range_with_len, length-map-range_with_len}
-use Rattle.image_layout.specs.pm_model.Words.{Words}
-use Rattle.image_layout.specs.layout_model.Places.{Geometry}
+use Rattle.k_inodes.specs.image_layout.pm_model.Words.{Words}
+use Rattle.k_inodes.specs.image_layout.layout_model.Places.{Geometry}
 use Rattle.k_inodes.specs.layout_model.Lines.{NameRow}
 use Rattle.k_inodes.specs.layout_model.Names.{Rows, row, is_entry}
 use Rattle.k_inodes.specs.layout_model.TableLaws.{is_entry-own}
 use Rattle.k_inodes.specs.layout_model.Tables.{IsKeyed}
-use Rattle.image_model.specs.Volume.{name_at, row_of, volume}
+use Rattle.map_chain.specs.image_model.Volume.{name_at, row_of, volume}
 
 -- the first n rows are those of the table, and the others are free
 pub record AreRead (rows all : Rows) (n : ℕ) : Type 0 where

@@ -7,7 +7,7 @@ use Rattle.std.proofs.lemmas.List.Elements.{All-append, All-map}
 use Rattle.std.proofs.lemmas.List.Folds.{list_any-append}
 use Rattle.block_pool.specs.extent_model.declared.extent_words.Extent.{Extent}
 use Rattle.block_pool.specs.extent_model.Extents.{covers, holds_disk, is_within}
-use Rattle.image_layout.specs.layout_model.Places.{Geometry, first_data, data_blocks, is_data_block}
+use Rattle.k_inodes.specs.image_layout.layout_model.Places.{Geometry, first_data, data_blocks, is_data_block}
 use Rattle.block_pool.specs.FreeSets.{FreeSet, is_among, LiesWithin, IsUnused}
 use Rattle.k_reading.specs.Pools.{is_named, one_block, used_extents, AreInData, IsPoolOf}
 

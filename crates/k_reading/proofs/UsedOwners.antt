@@ -9,11 +9,11 @@ use Rattle.std.proofs.lemmas.List.{get_or_default}
 use Rattle.std.proofs.lemmas.List.Sums.{sum_by-cons}
 use Rattle.block_pool.specs.extent_model.declared.extent_words.Extent.{Extent}
 use Rattle.block_pool.specs.extent_model.Extents.{covers}
-use Rattle.image_layout.specs.layout_model.Places.{Geometry, is_data_block}
-use Rattle.image_model.specs.Placed.{block_at}
-use Rattle.image_model.specs.Room.{has_none}
-use Rattle.image_model.specs.Uses.{owners}
-use Rattle.image_model.specs.Volume.{Volume, chain, extents}
+use Rattle.k_inodes.specs.image_layout.layout_model.Places.{Geometry, is_data_block}
+use Rattle.map_chain.specs.image_model.Placed.{block_at}
+use Rattle.map_chain.specs.image_model.Room.{has_none}
+use Rattle.map_chain.specs.image_model.Uses.{owners}
+use Rattle.map_chain.specs.image_model.Volume.{Volume, chain, extents}
 use Rattle.block_pool.specs.FreeSets.{FreeSet, is_among, is_free_at}
 use Rattle.image_laws.specs.volume_laws.OwnerLaws.{length-owners, uses-le-owners}
 use Rattle.image_laws.specs.volume_laws.PoolLaws.{has_none-some, has_none-zero}

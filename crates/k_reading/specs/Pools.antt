@@ -3,8 +3,8 @@ use Rattle.std.specs.Prelude.{◌≡◌, ℕ, Bool, true, not, ◌&&◌, ◌||�
 use Rattle.std.specs.List.{list_any}
 use Rattle.block_pool.specs.extent_model.declared.extent_words.Extent.{Extent}
 use Rattle.block_pool.specs.extent_model.Extents.{covers}
-use Rattle.image_layout.specs.layout_model.Places.{Geometry, first_data, data_blocks, is_data_block}
-use Rattle.image_model.specs.Volume.{Volume}
+use Rattle.k_inodes.specs.image_layout.layout_model.Places.{Geometry, first_data, data_blocks, is_data_block}
+use Rattle.map_chain.specs.image_model.Volume.{Volume}
 use Rattle.image_laws.specs.volume_laws.Uses.{HasAllMaps}
 use Rattle.block_pool.specs.FreeSets.{FreeSet, is_free_at, is_among, LiesWithin}
 

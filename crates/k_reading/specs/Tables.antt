@@ -1,10 +1,10 @@
 -- What is read of the chains of inodes.
 use Rattle.std.specs.Prelude.{◌≡◌, ℕ, ◌<◌, List, [], length, slice_index_or}
-use Rattle.image_layout.specs.pm_model.Words.{Words}
+use Rattle.k_inodes.specs.image_layout.pm_model.Words.{Words}
 use Rattle.block_pool.specs.extent_model.declared.extent_words.Extent.{Extent}
 use Rattle.k_inodes.specs.layout_model.declared.lines.Inode.{Inode}
-use Rattle.image_model.specs.Standing.{IsChain, HasNoChain}
-use Rattle.image_model.specs.Volume.{free_inode}
+use Rattle.map_chain.specs.image_model.Standing.{IsChain, HasNoChain}
+use Rattle.map_chain.specs.image_model.Volume.{free_inode}
 
 -- the chain of an inode and its map are those that stand in the words, and empty where none stands
 pub record IsFound (f : Words) (size : ℕ) (x : Inode) (blocks : List ℕ) (es : List Extent) : Type 0 where

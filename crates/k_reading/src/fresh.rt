@@ -1,11 +1,10 @@
 //! The bytes of the fresh image.
 ghost use Rattle.std.specs.Prelude.{◌≡◌, ◌+◌, ◌*◌, ◌≤◌, ℕ, length, IfOk};
-ghost use Rattle.image_layout.specs.pm_model.Words.{word_at, with_line};
-ghost use Rattle.image_layout.specs.layout_model.Places.{IsGeometry};
+ghost use Rattle.k_inodes.specs.image_layout.pm_model.Words.{word_at, with_line};
+ghost use Rattle.k_inodes.specs.image_layout.layout_model.Places.{IsGeometry};
 ghost use Rattle.k_inodes.specs.layout_model.Fresh.{empty_inode, state_bytes, blank, staging_files, fresh};
 
-use image_layout::Geometry;
-use k_inodes::{Inode, Kind, encode_inode};
+use k_inodes::{Geometry, Inode, Kind, encode_inode};
 use std::alloc::{AllocError, Global};
 
 // So many blocks of zeros, 256 bytes at a time.

@@ -1,13 +1,12 @@
 //! The log base, the inodes and the names of a device.
 ghost use Rattle.std.specs.Prelude.{◌≡◌, ◌*◌, ◌<◌, length, IfOk};
-ghost use Rattle.image_layout.specs.pm_model.Cells.{AllSingle};
-ghost use Rattle.image_layout.specs.pm_model.Images.{words_of};
-ghost use Rattle.image_layout.specs.layout_model.Places.{base_word};
+ghost use Rattle.k_inodes.specs.image_layout.pm_model.Cells.{AllSingle};
+ghost use Rattle.k_inodes.specs.image_layout.pm_model.Images.{words_of};
+ghost use Rattle.k_inodes.specs.image_layout.layout_model.Places.{base_word};
 ghost use Rattle.k_inodes.specs.layout_model.Tables.{IsKeyed};
-ghost use Rattle.image_model.specs.Volume.{inode_or_free, row_of, name_at, volume};
+ghost use Rattle.map_chain.specs.image_model.Volume.{inode_or_free, row_of, name_at, volume};
 
-use image_layout::Geometry;
-use k_inodes::{Inode, Kind, decode_inode};
+use k_inodes::{Geometry, Inode, Kind, decode_inode};
 use k_names::{Decoded, NameLine, NameTable, decode_name};
 use pm_lines::Pm;
 use std::alloc::{AllocError, Global};

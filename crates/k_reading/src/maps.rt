@@ -1,10 +1,10 @@
 //! The chains and the maps of a device.
 ghost use Rattle.std.specs.Prelude.{◌≡◌, ◌*◌, ℕ, List, [], length, IfOk};
-ghost use Rattle.image_layout.specs.pm_model.Cells.{AllSingle};
-ghost use Rattle.image_layout.specs.pm_model.Images.{words_of};
-ghost use Rattle.image_layout.specs.layout_model.Places.{Geometry};
-ghost use Rattle.image_model.specs.Reading.{Reads};
-ghost use Rattle.image_model.specs.Volume.{Volume};
+ghost use Rattle.k_inodes.specs.image_layout.pm_model.Cells.{AllSingle};
+ghost use Rattle.k_inodes.specs.image_layout.pm_model.Images.{words_of};
+ghost use Rattle.k_inodes.specs.image_layout.layout_model.Places.{Geometry};
+ghost use Rattle.map_chain.specs.image_model.Reading.{Reads};
+ghost use Rattle.map_chain.specs.image_model.Volume.{Volume};
 ghost use Rattle.k_reading.specs.Tables.{IsFound, AreFound};
 
 use extent_map::ExtentMap;

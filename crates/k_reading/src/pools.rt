@@ -1,14 +1,14 @@
 //! The data blocks that nothing names.
 ghost use Rattle.std.specs.Prelude.{◌≡◌, ◌++◌, ℕ, IfOk, OnOk, flat_map, map};
 ghost use Rattle.block_pool.specs.FreeSets.{is_free_at};
-ghost use Rattle.image_model.specs.Volume.{Volume};
+ghost use Rattle.map_chain.specs.image_model.Volume.{Volume};
 ghost use Rattle.k_reading.specs.Pools.{one_block, used_extents, AreInData, IsOfTables, IsPoolOf};
 ghost use Rattle.image_laws.specs.volume_laws.Uses.{is_unused};
 
 use crate::maps::Blocks;
 use block_pool::Pool;
 use extent_map::{Extent, ExtentMap};
-use image_layout::Geometry;
+use k_inodes::Geometry;
 use std::alloc::{AllocError, Global};
 
 // The extent of one block.

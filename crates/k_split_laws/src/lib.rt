@@ -19,6 +19,7 @@ pub use exits::{
     a_second_step_ends_the_call, a_step_ends, a_step_ends_in_flight, changes_are_steps,
     replies_are_those_of_the_rows,
 };
+pub use k_split::{KFault, KSplit};
 pub use lost::cuts_leave_devices;
 pub use seen::{
     a_second_step_is_seen, changes_are_seen_as_steps, replies_are_those_of_what_is_seen,

@@ -15,5 +15,6 @@ mod lines;
 mod places;
 mod spelling;
 
+pub use block_counts::reserve_for;
 pub use lines::{Draft, Inode, Kind};
 pub use spelling::names_are_spelled;

@@ -26,3 +26,4 @@ pub use overlays::{
 pub use standing::{
     Commit, FileTable, KSplit, StageFault, StageRun, Staging, put_lines, what_files_hold_is_the_sum,
 };
+pub use write_jobs::settle_blocks;

@@ -15,3 +15,5 @@ pub use Rattle.k_split_laws.proofs.k_tables_proofs as k_tables_proofs
 pub use Rattle.live_model.proofs as live_model_proofs
 pub use Rattle.live_model.proofs.open_files_proofs as open_files_proofs
 pub use Rattle.live_model.proofs.staging_files_proofs
+pub use Rattle.fsync_relink.proofs as fsync_relink_proofs
+pub use Rattle.k_split_laws.proofs as k_split_laws_proofs

@@ -22,5 +22,6 @@ mod steps;
 pub use begins::{FileTable, StageRun, a_job_begins_in_flight};
 pub use changes::changes_that_write_spare_blocks;
 pub use fills::{holes_are_filled_as_asked, holes_are_filled_in_flight};
+pub use live_model::{FilledJob, settle_blocks};
 pub use reserves::{StageFault, Staging, a_run_is_reserved_in_flight};
 pub use steps::{Collection, KFault, KSplit, a_step_leaves_the_world_standing, read_bytes};

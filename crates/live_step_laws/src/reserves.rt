@@ -15,5 +15,5 @@ pub fn a_run_is_reserved_in_flight()
     ensures cut { KeepsReserved }
 {}
 
-pub use k_split::KSplit;
+pub use k_split_laws::KSplit;
 pub use live_model::{StageFault, StageRun, Staging};

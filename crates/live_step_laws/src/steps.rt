@@ -16,5 +16,5 @@ pub fn a_step_leaves_the_world_standing()
     ensures cleared { LeavesCleared }
 {}
 
-pub use k_split::{KFault, KSplit};
+pub use k_split_laws::{KFault, KSplit};
 pub use live_model::{Collection, read_bytes};

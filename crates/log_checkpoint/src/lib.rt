@@ -21,4 +21,4 @@ mod publishing;
 pub use file_table::FileTable;
 pub use fsync_relink::publish_runs;
 pub use gathering::gather;
-pub use staging_files::{Commit, KSplit, Staging};
+pub use staging_files::{Commit, Geometry, KSplit, Staging};

@@ -5,9 +5,9 @@ use Rattle.pm_lines.specs.pm_model.Words.{Words}
 use Rattle.extent_map.specs.extent_model.declared.extent_words.Extent.{Extent}
 use Rattle.extent_map.specs.extent_model.Extents.{IsCanonical}
 use Rattle.volume_laws.specs.ChainLaws.{spells-stands, stands-spelled, listed-map}
-use Rattle.image_model.specs.Placed.{StandsIn}
-use Rattle.image_model.specs.Listed.{AreListed}
-use Rattle.image_model.specs.Standing.{IsMapIn, HasNoMap}
+use Rattle.volume_laws.specs.image_model.Placed.{StandsIn}
+use Rattle.volume_laws.specs.image_model.Listed.{AreListed}
+use Rattle.volume_laws.specs.image_model.Standing.{IsMapIn, HasNoMap}
 
 -- they do not stand there: no map does
 pub not_spelled : (f : Words) (blocks : List ℕ) (count : ℕ) (listed : List Extent) → length listed ≡ count → AreListed f blocks listed → ¬ StandsIn f blocks listed

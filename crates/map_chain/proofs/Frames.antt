@@ -8,10 +8,10 @@ use Rattle.pm_lines.specs.pm_model.Frames.{KeepsSingle}
 use Rattle.pm_lines.specs.pm_model.Images.{IsImage, Follows}
 use Rattle.pm_lines.specs.pm_model.Words.{Words}
 use Rattle.extent_map.specs.extent_model.declared.extent_words.Extent.{Extent}
-use Rattle.image_model.specs.Chains.{chain_word, SpellsChain}
+use Rattle.volume_laws.specs.image_model.Chains.{chain_word, SpellsChain}
 use Rattle.volume_laws.specs.ChainLaws.{spells-stands, reads_back}
-use Rattle.image_model.specs.Placed.{block_at, part_at, AreSingle, IsOutside}
-use Rattle.image_model.specs.Standing.{FitHalves}
+use Rattle.volume_laws.specs.image_model.Placed.{block_at, part_at, AreSingle, IsOutside}
+use Rattle.volume_laws.specs.image_model.Standing.{FitHalves}
 use Rattle.extent_map.specs.extent_model.Extents.{IsCanonical}
 use Rattle.map_chain.specs.Writes.{HasChainWords, MayWrite, SameOutside, IsWritten}
 

@@ -3,9 +3,9 @@ use Rattle.std.proofs.Common.{◌≡◌, ◌+◌, ◌-◌, ◌/◌, ◌<◌, ◌
 use Rattle.std.proofs.lemmas.List.{get_or_at, get_or_append_left, get_or_push, length_push, append-nil}
 use Rattle.std.proofs.lemmas.Bool.{cases_lt}
 use Rattle.pm_lines.specs.pm_model.Words.{Words}
-use Rattle.image_model.specs.Chains.{next_block, blocks_from}
+use Rattle.volume_laws.specs.image_model.Chains.{next_block, blocks_from}
 use Rattle.volume_laws.specs.ChainLaws.{length-blocks_from}
-use Rattle.image_model.specs.Placed.{block_at, AreInDevice}
+use Rattle.volume_laws.specs.image_model.Placed.{block_at, AreInDevice}
 
 -- n blocks, the first of them and those behind it
 first_of : (f : Words) (b n m : ℕ) → n ≡ suc m → blocks_from f b n ≡ b ∷ blocks_from f (next_block f b) m

@@ -1,3 +1,3 @@
 pub mod Writes
 pub use Rattle.volume_laws.specs as volume_laws
-pub use Rattle.image_model.specs as image_model
+pub use Rattle.volume_laws.specs.image_model as image_model

@@ -6,9 +6,9 @@ use Rattle.pm_lines.specs.pm_model.Cells.{cell}
 use Rattle.pm_lines.specs.pm_model.Words.{Words}
 use Rattle.block_counts.specs.Counts.{chains_for}
 use Rattle.extent_map.specs.extent_model.declared.extent_words.Extent.{Extent}
-use Rattle.image_model.specs.Chains.{chain_word, first_or_zero}
-use Rattle.image_model.specs.Standing.{IsChain}
-use Rattle.image_model.specs.Placed.{block_at, part_at, AreDistinct, AreInDevice, AreSingle, IsOutside}
+use Rattle.volume_laws.specs.image_model.Chains.{chain_word, first_or_zero}
+use Rattle.volume_laws.specs.image_model.Standing.{IsChain}
+use Rattle.volume_laws.specs.image_model.Placed.{block_at, part_at, AreDistinct, AreInDevice, AreSingle, IsOutside}
 
 -- As many blocks as the extents take, no two the same, all in the device, and each of their words has one candidate.
 pub record MayWrite (es : List Extent) (blocks : List ℕ) (d : List Cell) : Type 0 where

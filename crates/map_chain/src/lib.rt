@@ -18,7 +18,7 @@
 //! `block_counts` (how many blocks a map takes).
 #![tactic(auto)]
 
-ghost use Rattle.image_model.specs.Standing.{ReadsBack, HasOneChain};
+ghost use Rattle.volume_laws.specs.image_model.Standing.{ReadsBack, HasOneChain};
 
 mod reading;
 mod words;

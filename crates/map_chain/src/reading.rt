@@ -4,10 +4,10 @@ ghost use Rattle.std.specs.List.{flat_map};
 ghost use Rattle.std.specs.Option.{IsSomeAnd};
 ghost use Rattle.extent_map.specs.extent_model.declared.extent_words.Extent.{Extent};
 ghost use Rattle.block_counts.specs.Counts.{chains_for};
-ghost use Rattle.image_model.specs.Chains.{chain_word as word_of_block, next_block as block_behind, extents_in, blocks_from};
-ghost use Rattle.image_model.specs.Placed.{block_at, part_at, AreDistinct, AreInDevice, BlockIsHome, AreHome, StandsIn};
-ghost use Rattle.image_model.specs.Listed.{AreListed};
-ghost use Rattle.image_model.specs.Standing.{IsMapIn, IsChain, HasNoMap, HasNoChain};
+ghost use Rattle.volume_laws.specs.image_model.Chains.{chain_word as word_of_block, next_block as block_behind, extents_in, blocks_from};
+ghost use Rattle.volume_laws.specs.image_model.Placed.{block_at, part_at, AreDistinct, AreInDevice, BlockIsHome, AreHome, StandsIn};
+ghost use Rattle.volume_laws.specs.image_model.Listed.{AreListed};
+ghost use Rattle.volume_laws.specs.image_model.Standing.{IsMapIn, IsChain, HasNoMap, HasNoChain};
 ghost use Rattle.pm_lines.specs.pm_model.Images.{words_of};
 
 use crate::words::{EXTENTS_PER_BLOCK, chain_word, next_in, part_of};

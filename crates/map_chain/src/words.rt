@@ -1,7 +1,7 @@
 //! The words of a chain's blocks.
 ghost use Rattle.std.specs.Prelude.{◌≡◌, ◌+◌, ◌*◌, ◌/◌, ◌%◌, ◌^◌, ◌<◌, ◌≤◌, ℕ, length, slice_index};
-ghost use Rattle.image_model.specs.Placed.{part_at};
-ghost use Rattle.image_model.specs.Chains.{extent_word, chain_word};
+ghost use Rattle.volume_laws.specs.image_model.Placed.{part_at};
+ghost use Rattle.volume_laws.specs.image_model.Chains.{extent_word, chain_word};
 
 use extent_map::Extent;
 

@@ -1,7 +1,7 @@
 //! Writing a chain.
 ghost use Rattle.std.specs.Prelude.{◌≡◌, ◌≢◌, ◌+◌, ◌*◌, ◌/◌, ◌%◌, ◌<◌, ◌≤◌, ℕ, true, false, length, slice_index};
-ghost use Rattle.image_model.specs.Chains.{chain_word as word_of_block, SpellsChain};
-ghost use Rattle.image_model.specs.Placed.{block_at, part_at, AreDistinct, AreInDevice, AreSingle, IsOutside};
+ghost use Rattle.volume_laws.specs.image_model.Chains.{chain_word as word_of_block, SpellsChain};
+ghost use Rattle.volume_laws.specs.image_model.Placed.{block_at, part_at, AreDistinct, AreInDevice, AreSingle, IsOutside};
 ghost use Rattle.map_chain.specs.Writes.{HasChainWords, MayWrite, SameOutside, IsWritten};
 ghost use Rattle.pm_lines.specs.pm_model.declared.Cell.TheVariants.{Single};
 ghost use Rattle.pm_lines.specs.pm_model.Cells.{cell, is_single, flushed, fenced, Settles};

@@ -20,5 +20,6 @@ mod trees;
 
 pub use facts::states_stay_sound;
 pub use orders::{entries_stay_in_order, names_are_told_sorted};
+pub use posix_spec::{Put, State};
 pub use publishing::{names_commute_with_the_cut, states_publish};
 pub use trees::{a_content_has_one_tree, a_tree_begins_as_itself, a_tree_lists_what_stands};

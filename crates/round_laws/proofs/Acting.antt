@@ -2,11 +2,11 @@
 use Rattle.std.specs.Prelude.{◌≡◌, ◌≢◌, ◌+◌, ◌-◌, ◌*◌, ◌^◌, not, ℕ, Bool, true, false, cond, List, [], ◌∷◌, ◌++◌, length, Option, Some, None, refl}
 use Rattle.std.proofs.Common.{arith, ap, ◌∙◌, sym, subst, inl, inr, length-append}
 use Rattle.std.proofs.lemmas.Bool.{cases_Bool}
-use Rattle.eof_laws.specs.pm_model.Powers.{Steps, Supply}
-use Rattle.eof_laws.specs.list_laws.Filters.{filter-In, filter-more, filter-same, In-filter}
-use Rattle.eof_laws.specs.list_laws.Members.{In}
-use Rattle.eof_laws.specs.layout_model.declared.lines.Draft.{Draft}
-use Rattle.eof_laws.specs.posix_types.declared.call.Who.{Who}
+use Rattle.world_view_laws.specs.eof_laws.pm_model.Powers.{Steps, Supply}
+use Rattle.world_view_laws.specs.eof_laws.list_laws.Filters.{filter-In, filter-more, filter-same, In-filter}
+use Rattle.world_view_laws.specs.eof_laws.list_laws.Members.{In}
+use Rattle.world_view_laws.specs.eof_laws.layout_model.declared.lines.Draft.{Draft}
+use Rattle.world_view_laws.specs.eof_laws.posix_types.declared.call.Who.{Who}
 use Rattle.world_view_laws.specs.in_flight.Histories.{set_up_stays}
 use Rattle.world_view_laws.specs.live_model.Jobs.{without}
 use Rattle.world_view_laws.specs.live_model.Standing.{JobOut}

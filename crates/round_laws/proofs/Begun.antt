@@ -2,20 +2,20 @@
 use Rattle.std.specs.Prelude.{◌≡◌, List, [], false, true, None, refl}
 use Rattle.std.proofs.Common.{ap, ◌∙◌, sym, subst}
 use Rattle.std.proofs.Math.Path.{fun_ext}
-use Rattle.eof_laws.specs.pm_model.Images.{words_of}
-use Rattle.eof_laws.specs.pm_model.Words.{Words}
-use Rattle.eof_laws.specs.layout_model.Places.{Geometry}
-use Rattle.eof_laws.specs.image_model.Content.{content}
-use Rattle.eof_laws.specs.file_table.Files.{Files}
+use Rattle.world_view_laws.specs.eof_laws.pm_model.Images.{words_of}
+use Rattle.world_view_laws.specs.eof_laws.pm_model.Words.{Words}
+use Rattle.world_view_laws.specs.eof_laws.layout_model.Places.{Geometry}
+use Rattle.world_view_laws.specs.eof_laws.image_model.Content.{content}
+use Rattle.world_view_laws.specs.eof_laws.file_table.Files.{Files}
 use Rattle.world_view_laws.specs.file_publish.staging_files.GivesUp.{nothing_staged}
-use Rattle.eof_laws.specs.k_split_model.View.{View}
+use Rattle.world_view_laws.specs.eof_laws.k_split_model.View.{View}
 use Rattle.log_replay.specs.Mounts.{IsMounted}
-use Rattle.eof_laws.specs.posix_spec.Tree.{start}
-use Rattle.eof_laws.specs.posix_types.declared.call.Mode.{Mode}
-use Rattle.eof_laws.specs.posix_types.declared.reply.Shape.{Shape}
-use Rattle.eof_laws.specs.posix_types.declared.tree.TreeEntry.{TreeEntry}
-use Rattle.eof_laws.specs.posix_types.Scripts.{Scripts}
-use Rattle.eof_laws.specs.posix_tables.Open.{nothing_open}
+use Rattle.world_view_laws.specs.eof_laws.posix_spec.Tree.{start}
+use Rattle.world_view_laws.specs.eof_laws.posix_types.declared.call.Mode.{Mode}
+use Rattle.world_view_laws.specs.eof_laws.posix_types.declared.reply.Shape.{Shape}
+use Rattle.world_view_laws.specs.eof_laws.posix_types.declared.tree.TreeEntry.{TreeEntry}
+use Rattle.world_view_laws.specs.eof_laws.posix_types.Scripts.{Scripts}
+use Rattle.world_view_laws.specs.eof_laws.posix_tables.Open.{nothing_open}
 use Rattle.world_view_laws.specs.Starts.{BeginsMounted}
 use Rattle.world_view_laws.specs.Views.{disk_of}
 use Rattle.world_view_laws.specs.live_model.world_image_laws.BeginningLaws.{IsShapeOf}

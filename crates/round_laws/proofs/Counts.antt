@@ -2,18 +2,18 @@
 use Rattle.std.specs.Prelude.{◌≡◌, ◌≢◌, ◌⊎◌, ◌≤◌, ◌<◌, ◌+◌, ℕ, zero, suc, Bool, true, false, cond, List, [], ◌∷◌, filter, length, slice_index_or, refl}
 use Rattle.std.proofs.Common.{arith, ap, sym, inl, inr}
 use Rattle.std.proofs.lemmas.List.Sums.{count_by-le-length, length-filter}
-use Rattle.eof_laws.specs.layout_model.declared.lines.Inode.{Inode}
-use Rattle.eof_laws.specs.layout_model.declared.lines.Kind.{Kind}
-use Rattle.eof_laws.specs.layout_model.declared.lines.Kind.TheVariants.{Directory, File, Free, Staging}
-use Rattle.eof_laws.specs.layout_model.Places.{Geometry}
-use Rattle.eof_laws.specs.image_model.Live.{is_file}
-use Rattle.eof_laws.specs.image_model.Rules.{IsKindAt}
-use Rattle.eof_laws.specs.image_model.Volume.{free_inode, inode}
+use Rattle.world_view_laws.specs.eof_laws.layout_model.declared.lines.Inode.{Inode}
+use Rattle.world_view_laws.specs.eof_laws.layout_model.declared.lines.Kind.{Kind}
+use Rattle.world_view_laws.specs.eof_laws.layout_model.declared.lines.Kind.TheVariants.{Directory, File, Free, Staging}
+use Rattle.world_view_laws.specs.eof_laws.layout_model.Places.{Geometry}
+use Rattle.world_view_laws.specs.eof_laws.image_model.Live.{is_file}
+use Rattle.world_view_laws.specs.eof_laws.image_model.Rules.{IsKindAt}
+use Rattle.world_view_laws.specs.eof_laws.image_model.Volume.{free_inode, inode}
 use Rattle.world_view_laws.specs.file_publish.live_model.Standing.{Kept, StandsAt}
-use Rattle.eof_laws.specs.k_split_model.View.{View}
-use Rattle.eof_laws.specs.posix_spec.State.{State}
-use Rattle.eof_laws.specs.posix_tables.Open.{Tables}
-use Rattle.file_publish.specs.log_checkpoint.Gathers.{file_count, total_runs}
+use Rattle.world_view_laws.specs.eof_laws.k_split_model.View.{View}
+use Rattle.world_view_laws.specs.eof_laws.posix_spec.State.{State}
+use Rattle.world_view_laws.specs.eof_laws.posix_tables.Open.{Tables}
+use Rattle.world_view_laws.specs.file_publish.log_checkpoint.Gathers.{file_count, total_runs}
 use Rattle.world_view_laws.proofs.in_flight_proofs.CountsCounts.{staged_few}
 
 -- ---- no more files than inodes behind the first five

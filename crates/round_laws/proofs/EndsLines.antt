@@ -3,28 +3,28 @@ use Rattle.std.specs.Prelude.{◌≡◌, ◌<◌, ◌+◌, ◌-◌, ◌*◌, ◌
 use Rattle.std.proofs.Common.{arith, ap, sym, subst, inl, inr}
 use Rattle.std.proofs.lemmas.List.{length-map}
 use Rattle.std.proofs.Math.ListN.{get_or-map}
-use Rattle.eof_laws.specs.pm_model.declared.Cell.{Cell}
-use Rattle.eof_laws.specs.pm_model.Cells.{AllHome, cell, is_lent}
-use Rattle.eof_laws.specs.pm_model.Parts.{Part}
+use Rattle.world_view_laws.specs.eof_laws.pm_model.declared.Cell.{Cell}
+use Rattle.world_view_laws.specs.eof_laws.pm_model.Cells.{AllHome, cell, is_lent}
+use Rattle.world_view_laws.specs.eof_laws.pm_model.Parts.{Part}
 use Rattle.world_view_laws.specs.write_end.CrashesLaws.{LinesHoldOut}
-use Rattle.eof_laws.specs.layout_model.declared.lines.Draft.{Draft}
-use Rattle.eof_laws.specs.layout_model.Places.{Geometry, log_line}
-use Rattle.eof_laws.specs.image_model.LogRule.{cells_of_line, HoldsEntry, IsAsAtFirst}
-use Rattle.eof_laws.specs.image_model.Volume.{Volume}
-use Rattle.eof_laws.specs.file_table.Files.{Files}
-use Rattle.file_publish.proofs.Tables.{no-jobs}
+use Rattle.world_view_laws.specs.eof_laws.layout_model.declared.lines.Draft.{Draft}
+use Rattle.world_view_laws.specs.eof_laws.layout_model.Places.{Geometry, log_line}
+use Rattle.world_view_laws.specs.eof_laws.image_model.LogRule.{cells_of_line, HoldsEntry, IsAsAtFirst}
+use Rattle.world_view_laws.specs.eof_laws.image_model.Volume.{Volume}
+use Rattle.world_view_laws.specs.eof_laws.file_table.Files.{Files}
+use Rattle.world_view_laws.proofs.file_publish_proofs.Tables.{no-jobs}
 use Rattle.world_view_laws.specs.file_publish.live_model.Flying.{IsOut}
 use Rattle.world_view_laws.specs.file_publish.k_split.Laps.{IsLogWord}
 use Rattle.world_view_laws.specs.file_publish.k_split.Order.{IsInOrder}
 use Rattle.world_view_laws.specs.file_publish.staging_files.Keeps.{Staged}
 use Rattle.world_view_laws.specs.file_publish.live_model.Standing.{StandsAt}
 use Rattle.world_view_laws.specs.file_publish.RoundLinesLaws.{HasTurned, StandsHome}
-use Rattle.eof_laws.specs.k_split_model.View.{View}
-use Rattle.eof_laws.specs.block_io.Lines.{line_at}
-use Rattle.eof_laws.specs.list_laws.Members.{In}
+use Rattle.world_view_laws.specs.eof_laws.k_split_model.View.{View}
+use Rattle.world_view_laws.specs.eof_laws.block_io.Lines.{line_at}
+use Rattle.world_view_laws.specs.eof_laws.list_laws.Members.{In}
 use Rattle.world_view_laws.specs.write_end.Lines as ended
 use Rattle.world_view_laws.specs.write_end.oplog_entry.LogLines.{cells_of}
-use Rattle.eof_laws.specs.posix_tables.Open.{Tables}
+use Rattle.world_view_laws.specs.eof_laws.posix_tables.Open.{Tables}
 use Rattle.world_view_laws.specs.Lines.{AreCrashLines, first_of, HoldTheClaims}
 use Rattle.world_view_laws.specs.Views.{first_by, IsGoing, IsWorldOver, kept_of, state_of, WorldView}
 use Rattle.round_laws.specs.EndsLaws.{IsEnding, MayEnd, MayPutLog}

@@ -3,38 +3,38 @@ use Rattle.std.specs.Prelude.{◌≡◌, ◌≤◌, ◌+◌, ◌-◌, ◌*◌, �
 use Rattle.std.proofs.Common.{arith, ap, ◌∙◌, sym, subst, inl, inr}
 use Rattle.std.proofs.lemmas.Bool.{both_ways, cases_lt}
 use Rattle.std.proofs.lemmas.List.{get_or-replicate}
-use Rattle.eof_laws.specs.pm_model.Bytes.{line_bytes-same}
-use Rattle.eof_laws.specs.pm_model.CellLaws.{single-home}
-use Rattle.eof_laws.specs.pm_model.Cells.{AllHome, cell, is_lent}
-use Rattle.eof_laws.specs.pm_model.ImageLaws.{IsImage-words_of}
-use Rattle.eof_laws.specs.pm_model.Images.{words_of}
-use Rattle.eof_laws.specs.pm_model.Words.{line_bytes, Words}
-use Rattle.eof_laws.specs.layout_model.declared.lines.Kind.TheVariants.{File}
-use Rattle.eof_laws.specs.layout_model.Entries.{held_seq, is_self_valid}
-use Rattle.eof_laws.specs.layout_model.Journal.{IsSound, journaled}
-use Rattle.eof_laws.specs.layout_model.PlaceLaws.{behind_log-not_journaled, behind_log-words}
-use Rattle.eof_laws.specs.layout_model.Places.{Geometry, log_line}
-use Rattle.eof_laws.specs.image_model.Checked.{IsCheckedAs}
-use Rattle.eof_laws.specs.image_model.Content.{content}
-use Rattle.eof_laws.specs.image_model.Volume.{inode, Volume, volume}
+use Rattle.world_view_laws.specs.eof_laws.pm_model.Bytes.{line_bytes-same}
+use Rattle.world_view_laws.specs.eof_laws.pm_model.CellLaws.{single-home}
+use Rattle.world_view_laws.specs.eof_laws.pm_model.Cells.{AllHome, cell, is_lent}
+use Rattle.world_view_laws.specs.eof_laws.pm_model.ImageLaws.{IsImage-words_of}
+use Rattle.world_view_laws.specs.eof_laws.pm_model.Images.{words_of}
+use Rattle.world_view_laws.specs.eof_laws.pm_model.Words.{line_bytes, Words}
+use Rattle.world_view_laws.specs.eof_laws.layout_model.declared.lines.Kind.TheVariants.{File}
+use Rattle.world_view_laws.specs.eof_laws.layout_model.Entries.{held_seq, is_self_valid}
+use Rattle.world_view_laws.specs.eof_laws.layout_model.Journal.{IsSound, journaled}
+use Rattle.world_view_laws.specs.eof_laws.layout_model.PlaceLaws.{behind_log-not_journaled, behind_log-words}
+use Rattle.world_view_laws.specs.eof_laws.layout_model.Places.{Geometry, log_line}
+use Rattle.world_view_laws.specs.eof_laws.image_model.Checked.{IsCheckedAs}
+use Rattle.world_view_laws.specs.eof_laws.image_model.Content.{content}
+use Rattle.world_view_laws.specs.eof_laws.image_model.Volume.{inode, Volume, volume}
 use Rattle.world_view_laws.specs.posix_laws.Starts.{start-rising}
 use Rattle.world_view_laws.specs.posix_laws.UnfinishedLaws.{AreUnfinished-none}
-use Rattle.eof_laws.specs.file_table.Files.{Files}
+use Rattle.world_view_laws.specs.eof_laws.file_table.Files.{Files}
 use Rattle.world_view_laws.proofs.file_publish_proofs.staging_files_proofs.GiveUpLaws.{staged-nothing}
 use Rattle.world_view_laws.proofs.file_publish_proofs.staging_files_proofs.StagedLaws.{free-given}
 use Rattle.world_view_laws.specs.file_publish.staging_files.GivesUp.{nothing_staged}
 use Rattle.world_view_laws.specs.file_publish.staging_files.Keeps.{Agrees, AreFreeSingle, is_kept_free, IsStaging}
-use Rattle.eof_laws.specs.k_split_model.View.{View}
+use Rattle.world_view_laws.specs.eof_laws.k_split_model.View.{View}
 use Rattle.log_replay.specs.Mounts.{IsMounted}
-use Rattle.eof_laws.specs.MapsLaws.{EndBegun}
+use Rattle.world_view_laws.specs.eof_laws.MapsLaws.{EndBegun}
 use Rattle.world_view_laws.proofs.open_files_proofs.Changes.{nothing_is_open}
-use Rattle.eof_laws.specs.posix_spec.Tree.{bare, start}
-use Rattle.eof_laws.specs.posix_types.declared.call.Mode.{Mode}
-use Rattle.eof_laws.specs.posix_types.declared.reply.Shape.{Shape}
-use Rattle.eof_laws.specs.posix_types.declared.tree.TreeEntry.{TreeEntry}
-use Rattle.eof_laws.specs.posix_types.Scripts.{Scripts}
-use Rattle.eof_laws.specs.posix_tables.Lookups.{AreDistinct}
-use Rattle.eof_laws.specs.posix_tables.Open.{is_open, nothing_open}
+use Rattle.world_view_laws.specs.eof_laws.posix_spec.Tree.{bare, start}
+use Rattle.world_view_laws.specs.eof_laws.posix_types.declared.call.Mode.{Mode}
+use Rattle.world_view_laws.specs.eof_laws.posix_types.declared.reply.Shape.{Shape}
+use Rattle.world_view_laws.specs.eof_laws.posix_types.declared.tree.TreeEntry.{TreeEntry}
+use Rattle.world_view_laws.specs.eof_laws.posix_types.Scripts.{Scripts}
+use Rattle.world_view_laws.specs.eof_laws.posix_tables.Lookups.{AreDistinct}
+use Rattle.world_view_laws.specs.eof_laws.posix_tables.Open.{is_open, nothing_open}
 use Rattle.world_view_laws.specs.Views.{AreCounted, IsGoing, IsWorldOver, kept_of}
 use Rattle.world_view_laws.specs.world_image_laws.Changed.{sound_headed}
 use Rattle.world_view_laws.specs.world_image_laws.Images.{HasOldLines, IsRunning}
@@ -43,7 +43,7 @@ use Rattle.world_view_laws.specs.live_model.world_model.HeldLaws.{AreSizes}
 use Rattle.world_view_laws.specs.live_model.Standing.{StandsAt}
 use Rattle.world_view_laws.specs.live_model.world_image_laws.Begun.{numbers_of}
 use Rattle.world_view_laws.specs.live_model.world_model.Stands.{number}
-use Rattle.eof_laws.specs.volume_laws.ImageLaws.{journaled-other}
+use Rattle.world_view_laws.specs.eof_laws.volume_laws.ImageLaws.{journaled-other}
 use Rattle.round_laws.proofs.StartsLines.{size_is, stands_at_rest}
 use Rattle.round_laws.proofs.Trees.{fold_tables, shape_of, shown_tree}
 use Rattle.round_laws.specs.StartsLaws.{first_view, MayStart, StartsGoing}

@@ -4,44 +4,44 @@ use Rattle.std.proofs.Common.{arith, ap, ◌∙◌, sym, subst, inl, inr}
 use Rattle.std.proofs.lemmas.Bool.Decides.{nat_tests}
 use Rattle.std.proofs.lemmas.List.{get_or_default}
 use Rattle.std.proofs.Math.Nat.{mul-le-mul}
-use Rattle.eof_laws.specs.pm_model.ImageLaws.{IsImage-words_of}
-use Rattle.eof_laws.specs.pm_model.Images.{words_of}
-use Rattle.eof_laws.specs.pm_model.Parts.{Part}
-use Rattle.eof_laws.specs.pm_model.Words.{line_bytes, Words}
+use Rattle.world_view_laws.specs.eof_laws.pm_model.ImageLaws.{IsImage-words_of}
+use Rattle.world_view_laws.specs.eof_laws.pm_model.Images.{words_of}
+use Rattle.world_view_laws.specs.eof_laws.pm_model.Parts.{Part}
+use Rattle.world_view_laws.specs.eof_laws.pm_model.Words.{line_bytes, Words}
 use Rattle.world_view_laws.specs.write_end.CrashesLaws.{LinesHoldOut}
-use Rattle.eof_laws.specs.layout_model.declared.lines.Draft.{Draft}
-use Rattle.eof_laws.specs.layout_model.declared.lines.Inode.{Inode}
-use Rattle.eof_laws.specs.layout_model.declared.lines.Kind.{Kind}
-use Rattle.eof_laws.specs.layout_model.declared.lines.Kind.TheVariants.{Directory, File, Free, Staging}
-use Rattle.eof_laws.specs.layout_model.Entries.{is_draft}
-use Rattle.eof_laws.specs.layout_model.LineLaws.{IsInodeLine-decode_inode}
-use Rattle.eof_laws.specs.layout_model.block_counts.declared.TheConstants.{LONGEST_FILE}
-use Rattle.eof_laws.specs.layout_model.Lines.{is_inode_of_kind}
-use Rattle.eof_laws.specs.layout_model.Journal.{journaled}
-use Rattle.eof_laws.specs.layout_model.PlaceLaws.{behind_log-not_journaled, behind_log-words}
-use Rattle.eof_laws.specs.layout_model.Places.{Geometry, inode_line, is_data_block, log_block}
-use Rattle.eof_laws.specs.image_model.Content.{size_by}
-use Rattle.eof_laws.specs.image_model.Live.{latest}
-use Rattle.eof_laws.specs.image_model.Reading.{Reads}
-use Rattle.eof_laws.specs.image_model.Rules.{file_blocks_of}
-use Rattle.eof_laws.specs.image_model.Volume.{extents, inode, Volume}
-use Rattle.eof_laws.specs.file_table.Files.{Files, size_in}
+use Rattle.world_view_laws.specs.eof_laws.layout_model.declared.lines.Draft.{Draft}
+use Rattle.world_view_laws.specs.eof_laws.layout_model.declared.lines.Inode.{Inode}
+use Rattle.world_view_laws.specs.eof_laws.layout_model.declared.lines.Kind.{Kind}
+use Rattle.world_view_laws.specs.eof_laws.layout_model.declared.lines.Kind.TheVariants.{Directory, File, Free, Staging}
+use Rattle.world_view_laws.specs.eof_laws.layout_model.Entries.{is_draft}
+use Rattle.world_view_laws.specs.eof_laws.layout_model.LineLaws.{IsInodeLine-decode_inode}
+use Rattle.world_view_laws.specs.eof_laws.layout_model.block_counts.declared.TheConstants.{LONGEST_FILE}
+use Rattle.world_view_laws.specs.eof_laws.layout_model.Lines.{is_inode_of_kind}
+use Rattle.world_view_laws.specs.eof_laws.layout_model.Journal.{journaled}
+use Rattle.world_view_laws.specs.eof_laws.layout_model.PlaceLaws.{behind_log-not_journaled, behind_log-words}
+use Rattle.world_view_laws.specs.eof_laws.layout_model.Places.{Geometry, inode_line, is_data_block, log_block}
+use Rattle.world_view_laws.specs.eof_laws.image_model.Content.{size_by}
+use Rattle.world_view_laws.specs.eof_laws.image_model.Live.{latest}
+use Rattle.world_view_laws.specs.eof_laws.image_model.Reading.{Reads}
+use Rattle.world_view_laws.specs.eof_laws.image_model.Rules.{file_blocks_of}
+use Rattle.world_view_laws.specs.eof_laws.image_model.Volume.{extents, inode, Volume}
+use Rattle.world_view_laws.specs.eof_laws.file_table.Files.{Files, size_in}
 use Rattle.world_view_laws.specs.file_publish.k_split.Laps.{HasNextLap}
 use Rattle.world_view_laws.specs.file_publish.staging_files.GivesUp.{AllStagedSingle}
 use Rattle.world_view_laws.specs.file_publish.staging_files.Keeps.{Staged}
 use Rattle.world_view_laws.specs.file_publish.live_model.Standing.{IsQuietBeside, Kept, StandsAt}
 use Rattle.world_view_laws.specs.file_publish.RoundLinesLaws.{StandsHome}
-use Rattle.eof_laws.specs.k_split_model.View.{View}
-use Rattle.eof_laws.specs.list_laws.Filters.{filter-In}
-use Rattle.eof_laws.specs.posix_spec.State.{State}
-use Rattle.eof_laws.specs.posix_tables.Open.{Tables}
+use Rattle.world_view_laws.specs.eof_laws.k_split_model.View.{View}
+use Rattle.world_view_laws.specs.eof_laws.list_laws.Filters.{filter-In}
+use Rattle.world_view_laws.specs.eof_laws.posix_spec.State.{State}
+use Rattle.world_view_laws.specs.eof_laws.posix_tables.Open.{Tables}
 use Rattle.world_view_laws.specs.write_end.world_model.Jobs.{live_claims}
 use Rattle.world_view_laws.specs.in_flight.Counts.{history_within}
 use Rattle.world_view_laws.specs.Views.{kept_of, state_of, WorldView}
-use Rattle.file_publish.specs.StandingLaws.{StandsToGather}
-use Rattle.file_publish.specs.log_checkpoint.volume_laws.PoolLaws.{covered-in_data}
-use Rattle.eof_laws.specs.volume_laws.LineWords.{data_word}
-use Rattle.eof_laws.specs.world_model.Latest.{latest-In}
+use Rattle.world_view_laws.specs.file_publish.StandingLaws.{StandsToGather}
+use Rattle.world_view_laws.specs.file_publish.log_checkpoint.volume_laws.PoolLaws.{covered-in_data}
+use Rattle.world_view_laws.specs.eof_laws.volume_laws.LineWords.{data_word}
+use Rattle.world_view_laws.specs.eof_laws.world_model.Latest.{latest-In}
 use Rattle.round_laws.proofs.Counts.{file_or_not, few_gathered}
 use Rattle.round_laws.proofs.EndsLines.{all_home, at_home, same_volume}
 use Rattle.round_laws.specs.EndsLaws.{EndsReady, IsEnding, ReadyToGather}

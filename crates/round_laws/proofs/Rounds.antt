@@ -3,41 +3,41 @@ use Rattle.std.specs.Prelude.{◌≡◌, ◌≢◌, ◌≤◌, ◌<◌, ◌+◌,
 use Rattle.std.proofs.Common.{arith, ap, ◌∙◌, sym, subst, inl, inr}
 use Rattle.std.proofs.Math.Nat.{mul-le-mul_left}
 use Rattle.std.proofs.Math.Path.{fun_ext}
-use Rattle.eof_laws.specs.pm_model.declared.Cell.{Cell}
-use Rattle.eof_laws.specs.pm_model.Cells.{AllHome, cell, is_lent, IsCandidate}
-use Rattle.eof_laws.specs.pm_model.ImageLaws.{IsImage-words_of}
-use Rattle.eof_laws.specs.pm_model.Images.{words_of}
-use Rattle.eof_laws.specs.pm_model.Parts.{Part}
-use Rattle.eof_laws.specs.pm_model.Words.{Words}
-use Rattle.eof_laws.specs.block_io.Overwrites.{IsInLines}
+use Rattle.world_view_laws.specs.eof_laws.pm_model.declared.Cell.{Cell}
+use Rattle.world_view_laws.specs.eof_laws.pm_model.Cells.{AllHome, cell, is_lent, IsCandidate}
+use Rattle.world_view_laws.specs.eof_laws.pm_model.ImageLaws.{IsImage-words_of}
+use Rattle.world_view_laws.specs.eof_laws.pm_model.Images.{words_of}
+use Rattle.world_view_laws.specs.eof_laws.pm_model.Parts.{Part}
+use Rattle.world_view_laws.specs.eof_laws.pm_model.Words.{Words}
+use Rattle.world_view_laws.specs.eof_laws.block_io.Overwrites.{IsInLines}
 use Rattle.world_view_laws.specs.write_end.CrashesLaws.{KeepsCrashed, LinesHoldOut}
-use Rattle.eof_laws.specs.layout_model.Places.{Geometry, log_line}
-use Rattle.eof_laws.specs.image_model.Honest.{IsHonest}
-use Rattle.eof_laws.specs.image_model.Volume.{Volume}
-use Rattle.eof_laws.specs.file_table.Files.{Files}
-use Rattle.file_publish.specs.GathersLaws.{HasGathered, KeepsGathered, StandsGathered}
+use Rattle.world_view_laws.specs.eof_laws.layout_model.Places.{Geometry, log_line}
+use Rattle.world_view_laws.specs.eof_laws.image_model.Honest.{IsHonest}
+use Rattle.world_view_laws.specs.eof_laws.image_model.Volume.{Volume}
+use Rattle.world_view_laws.specs.eof_laws.file_table.Files.{Files}
+use Rattle.world_view_laws.specs.file_publish.GathersLaws.{HasGathered, KeepsGathered, StandsGathered}
 use Rattle.world_view_laws.specs.file_publish.staging_files.GivesUp.{nothing_staged}
 use Rattle.world_view_laws.specs.file_publish.staging_files.Keeps.{Staged}
 use Rattle.world_view_laws.specs.world_image_laws.Promised.{IsKept, KeepsPromise}
 use Rattle.world_view_laws.specs.file_publish.live_model.Standing.{JobOut, StandsAt}
 use Rattle.world_view_laws.specs.file_publish.RoundLinesLaws.{StandsHome}
-use Rattle.eof_laws.specs.k_journal.declared.outcomes.Commit.{Commit}
-use Rattle.eof_laws.specs.k_split_model.View.{View}
-use Rattle.eof_laws.specs.block_io.Lines.{LinesComeBack}
-use Rattle.eof_laws.specs.list_laws.Members.{In}
+use Rattle.world_view_laws.specs.eof_laws.k_journal.declared.outcomes.Commit.{Commit}
+use Rattle.world_view_laws.specs.eof_laws.k_split_model.View.{View}
+use Rattle.world_view_laws.specs.eof_laws.block_io.Lines.{LinesComeBack}
+use Rattle.world_view_laws.specs.eof_laws.list_laws.Members.{In}
 use Rattle.world_view_laws.specs.write_end.Blocks.{ComeHome}
 use Rattle.world_view_laws.specs.write_end.Lines.{AreCrashLines}
 use Rattle.world_view_laws.specs.write_end.Stops.{KeepsGatheredOut, KeepsOut}
-use Rattle.eof_laws.specs.MapsLaws.{EndGathered}
-use Rattle.eof_laws.specs.posix_spec.Run.{Unfinished}
-use Rattle.eof_laws.specs.posix_tables.Open.{Tables}
+use Rattle.world_view_laws.specs.eof_laws.MapsLaws.{EndGathered}
+use Rattle.world_view_laws.specs.eof_laws.posix_spec.Run.{Unfinished}
+use Rattle.world_view_laws.specs.eof_laws.posix_tables.Open.{Tables}
 use Rattle.world_view_laws.specs.declared.views.over.Over.{Over}
 use Rattle.world_view_laws.specs.eof_laws.Ends.{FilesEnd}
 use Rattle.world_view_laws.specs.Lines.{HoldTheClaims}
 use Rattle.world_view_laws.specs.write_end.Ends.{begun_by}
 use Rattle.world_view_laws.specs.Rounds.{MayCheckpoint}
 use Rattle.world_view_laws.specs.Views.{AreCounted, calls_out, ComesHomeTo, Disk, disk_of, first_by, IsGoing, IsLost, IsLostHome, IsLostOut, IsWorldOver, kept_of, most_acts, state_of, WorldView}
-use Rattle.file_publish.specs.log_checkpoint.Gathers.{IsGatherAnswer}
+use Rattle.world_view_laws.specs.file_publish.log_checkpoint.Gathers.{IsGatherAnswer}
 use Rattle.round_laws.proofs.EndsLines.{all_home, at_home, lines_hold, same_volume}
 use Rattle.round_laws.proofs.Ready.{few_nodes, next_lap, small_enough}
 use Rattle.round_laws.specs.EndsLaws.{AppliesClaims, GoesIntoNextRound, IsEnding, LosesRoundBefore, LosesRoundInside, lost_round, next_view}

@@ -1,31 +1,31 @@
 -- An unmount: what is left of a run keeps the promise, and its log is empty.
 use Rattle.std.specs.Prelude.{◌≡◌, ◌*◌, ◌++◌, Bool, true, false, List, [], length, map, Option, Some, None, refl}
 use Rattle.std.proofs.Common.{arith, ◌∙◌, sym, subst}
-use Rattle.eof_laws.specs.pm_model.declared.Cell.{Cell}
-use Rattle.eof_laws.specs.pm_model.Cells.{AllHome}
-use Rattle.eof_laws.specs.pm_model.Parts.{Part}
-use Rattle.eof_laws.specs.pm_model.Words.{Words}
-use Rattle.eof_laws.specs.layout_model.declared.lines.Draft.{Draft}
-use Rattle.eof_laws.specs.layout_model.Journal.{journaled}
-use Rattle.eof_laws.specs.layout_model.Places.{Geometry}
-use Rattle.eof_laws.specs.image_model.Live.{entry_in}
-use Rattle.eof_laws.specs.image_model.Reading.{Reads}
-use Rattle.eof_laws.specs.image_model.Volume.{Volume, volume}
-use Rattle.eof_laws.specs.volume_laws.ReadingLaws.{reads-volume}
+use Rattle.world_view_laws.specs.eof_laws.pm_model.declared.Cell.{Cell}
+use Rattle.world_view_laws.specs.eof_laws.pm_model.Cells.{AllHome}
+use Rattle.world_view_laws.specs.eof_laws.pm_model.Parts.{Part}
+use Rattle.world_view_laws.specs.eof_laws.pm_model.Words.{Words}
+use Rattle.world_view_laws.specs.eof_laws.layout_model.declared.lines.Draft.{Draft}
+use Rattle.world_view_laws.specs.eof_laws.layout_model.Journal.{journaled}
+use Rattle.world_view_laws.specs.eof_laws.layout_model.Places.{Geometry}
+use Rattle.world_view_laws.specs.eof_laws.image_model.Live.{entry_in}
+use Rattle.world_view_laws.specs.eof_laws.image_model.Reading.{Reads}
+use Rattle.world_view_laws.specs.eof_laws.image_model.Volume.{Volume, volume}
+use Rattle.world_view_laws.specs.eof_laws.volume_laws.ReadingLaws.{reads-volume}
 use Rattle.world_view_laws.specs.write_end.CrashesLaws.{KeepsHome, LinesHoldOut}
-use Rattle.eof_laws.specs.file_table.Files.{Files}
-use Rattle.file_publish.specs.GathersLaws.{KeepsGathered, StandsGathered}
+use Rattle.world_view_laws.specs.eof_laws.file_table.Files.{Files}
+use Rattle.world_view_laws.specs.file_publish.GathersLaws.{KeepsGathered, StandsGathered}
 use Rattle.world_view_laws.specs.file_publish.staging_files.GivesUp.{nothing_staged}
 use Rattle.world_view_laws.specs.file_publish.staging_files.Keeps.{Staged}
 use Rattle.world_view_laws.specs.world_image_laws.Images.{HasNoEntry, ShowsLog}
 use Rattle.world_view_laws.specs.world_image_laws.Promised.{KeepsPromise}
 use Rattle.world_view_laws.specs.file_publish.RoundLinesLaws.{StandsHome}
-use Rattle.eof_laws.specs.k_split_model.View.{View}
-use Rattle.eof_laws.specs.list_laws.Members.{In}
+use Rattle.world_view_laws.specs.eof_laws.k_split_model.View.{View}
+use Rattle.world_view_laws.specs.eof_laws.list_laws.Members.{In}
 use Rattle.world_view_laws.specs.write_end.Stops.{KeepsGatheredOut}
-use Rattle.eof_laws.specs.posix_spec.Run.{Unfinished}
-use Rattle.eof_laws.specs.posix_spec.Unfinished.{AreUnfinished}
-use Rattle.eof_laws.specs.posix_tables.Open.{Tables}
+use Rattle.world_view_laws.specs.eof_laws.posix_spec.Run.{Unfinished}
+use Rattle.world_view_laws.specs.eof_laws.posix_spec.Unfinished.{AreUnfinished}
+use Rattle.world_view_laws.specs.eof_laws.posix_tables.Open.{Tables}
 use Rattle.world_view_laws.specs.write_end.Ends.{begun_by}
 use Rattle.world_view_laws.specs.Rounds.{IsLeft}
 use Rattle.world_view_laws.specs.in_flight.Counts.{history_within}

@@ -4,21 +4,21 @@ use Rattle.std.proofs.Common.{arith, sym, subst, inl, inr}
 use Rattle.std.proofs.lemmas.Bool.{cases_lt}
 use Rattle.std.proofs.lemmas.Bool.Decides.{nat_tests}
 use Rattle.std.proofs.lemmas.List.{get_or_past}
-use Rattle.eof_laws.specs.pm_model.ImageLaws.{IsImage-words_of}
-use Rattle.eof_laws.specs.pm_model.Images.{words_of}
-use Rattle.eof_laws.specs.pm_model.Words.{line_bytes, Words}
-use Rattle.eof_laws.specs.layout_model.declared.lines.Inode.{Inode}
-use Rattle.eof_laws.specs.layout_model.declared.lines.Kind.{Kind}
-use Rattle.eof_laws.specs.layout_model.declared.lines.Kind.TheVariants.{Directory, File, Free, Staging}
-use Rattle.eof_laws.specs.layout_model.LineLaws.{IsInodeLine-decode_inode}
-use Rattle.eof_laws.specs.layout_model.block_counts.declared.TheConstants.{LONGEST_FILE}
-use Rattle.eof_laws.specs.layout_model.Lines.{is_inode_of_kind}
-use Rattle.eof_laws.specs.layout_model.Journal.{journaled}
-use Rattle.eof_laws.specs.layout_model.Places.{Geometry, inode_line}
-use Rattle.eof_laws.specs.image_model.Reading.{Reads}
-use Rattle.eof_laws.specs.image_model.Volume.{free_inode, inode, Volume}
-use Rattle.eof_laws.specs.k_split_model.Stands.{Stands}
-use Rattle.eof_laws.specs.k_split_model.View.{View}
+use Rattle.world_view_laws.specs.eof_laws.pm_model.ImageLaws.{IsImage-words_of}
+use Rattle.world_view_laws.specs.eof_laws.pm_model.Images.{words_of}
+use Rattle.world_view_laws.specs.eof_laws.pm_model.Words.{line_bytes, Words}
+use Rattle.world_view_laws.specs.eof_laws.layout_model.declared.lines.Inode.{Inode}
+use Rattle.world_view_laws.specs.eof_laws.layout_model.declared.lines.Kind.{Kind}
+use Rattle.world_view_laws.specs.eof_laws.layout_model.declared.lines.Kind.TheVariants.{Directory, File, Free, Staging}
+use Rattle.world_view_laws.specs.eof_laws.layout_model.LineLaws.{IsInodeLine-decode_inode}
+use Rattle.world_view_laws.specs.eof_laws.layout_model.block_counts.declared.TheConstants.{LONGEST_FILE}
+use Rattle.world_view_laws.specs.eof_laws.layout_model.Lines.{is_inode_of_kind}
+use Rattle.world_view_laws.specs.eof_laws.layout_model.Journal.{journaled}
+use Rattle.world_view_laws.specs.eof_laws.layout_model.Places.{Geometry, inode_line}
+use Rattle.world_view_laws.specs.eof_laws.image_model.Reading.{Reads}
+use Rattle.world_view_laws.specs.eof_laws.image_model.Volume.{free_inode, inode, Volume}
+use Rattle.world_view_laws.specs.eof_laws.k_split_model.Stands.{Stands}
+use Rattle.world_view_laws.specs.eof_laws.k_split_model.View.{View}
 use Rattle.log_replay.specs.Sheds.{IsAtRest}
 
 few_bytes : (kind : Kind) (x : Inode) → is_inode_of_kind kind x ≡ true → x.size ≤ LONGEST_FILE

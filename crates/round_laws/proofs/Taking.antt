@@ -2,14 +2,14 @@
 use Rattle.std.specs.Prelude.{◌≡◌, ◌≤◌, ◌+◌, ◌*◌, ◌/◌, ◌^◌, false, length}
 use Rattle.std.proofs.Common.{arith, ap, sym, subst}
 use Rattle.std.proofs.Math.Nat.{mul-le-mul}
-use Rattle.eof_laws.specs.layout_model.PlaceLaws.{behind_log-not_journaled, behind_log-words}
-use Rattle.eof_laws.specs.layout_model.Places.{Geometry}
-use Rattle.eof_laws.specs.file_table.Files.{Files}
+use Rattle.world_view_laws.specs.eof_laws.layout_model.PlaceLaws.{behind_log-not_journaled, behind_log-words}
+use Rattle.world_view_laws.specs.eof_laws.layout_model.Places.{Geometry}
+use Rattle.world_view_laws.specs.eof_laws.file_table.Files.{Files}
 use Rattle.world_view_laws.specs.file_publish.k_split.Laps.{HasSingleLog}
 use Rattle.world_view_laws.specs.file_publish.staging_files.Keeps.{Staged}
 use Rattle.world_view_laws.specs.file_publish.live_model.Standing.{IsQuietBeside, StandsAt}
-use Rattle.eof_laws.specs.k_split_model.View.{View}
-use Rattle.eof_laws.specs.posix_tables.Open.{Tables}
+use Rattle.world_view_laws.specs.eof_laws.k_split_model.View.{View}
+use Rattle.world_view_laws.specs.eof_laws.posix_tables.Open.{Tables}
 use Rattle.world_view_laws.specs.in_flight.Counts.{history_within}
 use Rattle.world_view_laws.specs.Views.{IsGoing, IsWorldOver, kept_of, state_of, WorldView}
 use Rattle.round_laws.specs.EndsLaws.{MayBegin, MayTakeLog}

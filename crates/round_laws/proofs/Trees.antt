@@ -2,27 +2,27 @@
 use Rattle.std.specs.Prelude.{◌≡◌, ℕ, Bool, true, false, cond, fold, List, [], ◌∷◌, Option, Some, None, option_map, refl}
 use Rattle.std.specs.List.{filter_map, range_with_len}
 use Rattle.std.proofs.Common.{arith, ap, ◌∙◌, sym, inl}
-use Rattle.eof_laws.specs.pm_model.CellLaws.{single-home}
-use Rattle.eof_laws.specs.pm_model.Cells.{cell}
-use Rattle.eof_laws.specs.pm_model.Images.{words_of}
-use Rattle.eof_laws.specs.pm_model.Words.{Words}
-use Rattle.eof_laws.specs.layout_model.declared.lines.Draft.{Draft}
-use Rattle.eof_laws.specs.layout_model.Journal.{journaled}
-use Rattle.eof_laws.specs.layout_model.Places.{Geometry}
-use Rattle.eof_laws.specs.image_model.Content.{HasBytes, IsDirectory, Node}
-use Rattle.eof_laws.specs.image_model.Live.{entry_in, is_live, live_entries}
-use Rattle.eof_laws.specs.image_model.Volume.{Volume}
-use Rattle.eof_laws.specs.k_tables.ContentsTrees.{tree_content, tree_node}
-use Rattle.eof_laws.specs.list_laws.Filters.{filter-In, filter_map-In, range-In}
-use Rattle.eof_laws.specs.list_laws.Members.{In}
-use Rattle.eof_laws.specs.posix_spec.State.{made, State}
-use Rattle.eof_laws.specs.posix_spec.Tree.{planted}
-use Rattle.eof_laws.specs.posix_laws.TreeOf.{IsTreeOf}
-use Rattle.eof_laws.specs.posix_types.declared.reply.Shape.{Shape}
-use Rattle.eof_laws.specs.posix_types.declared.tree.TreeEntry.{TreeEntry}
-use Rattle.eof_laws.specs.posix_types.declared.tree.TreeNode.{TreeNode}
-use Rattle.eof_laws.specs.posix_tables.Names.{is_root}
-use Rattle.eof_laws.specs.posix_tables.Places.{node_of}
+use Rattle.world_view_laws.specs.eof_laws.pm_model.CellLaws.{single-home}
+use Rattle.world_view_laws.specs.eof_laws.pm_model.Cells.{cell}
+use Rattle.world_view_laws.specs.eof_laws.pm_model.Images.{words_of}
+use Rattle.world_view_laws.specs.eof_laws.pm_model.Words.{Words}
+use Rattle.world_view_laws.specs.eof_laws.layout_model.declared.lines.Draft.{Draft}
+use Rattle.world_view_laws.specs.eof_laws.layout_model.Journal.{journaled}
+use Rattle.world_view_laws.specs.eof_laws.layout_model.Places.{Geometry}
+use Rattle.world_view_laws.specs.eof_laws.image_model.Content.{HasBytes, IsDirectory, Node}
+use Rattle.world_view_laws.specs.eof_laws.image_model.Live.{entry_in, is_live, live_entries}
+use Rattle.world_view_laws.specs.eof_laws.image_model.Volume.{Volume}
+use Rattle.world_view_laws.specs.eof_laws.k_tables.ContentsTrees.{tree_content, tree_node}
+use Rattle.world_view_laws.specs.eof_laws.list_laws.Filters.{filter-In, filter_map-In, range-In}
+use Rattle.world_view_laws.specs.eof_laws.list_laws.Members.{In}
+use Rattle.world_view_laws.specs.eof_laws.posix_spec.State.{made, State}
+use Rattle.world_view_laws.specs.eof_laws.posix_spec.Tree.{planted}
+use Rattle.world_view_laws.specs.eof_laws.posix_laws.TreeOf.{IsTreeOf}
+use Rattle.world_view_laws.specs.eof_laws.posix_types.declared.reply.Shape.{Shape}
+use Rattle.world_view_laws.specs.eof_laws.posix_types.declared.tree.TreeEntry.{TreeEntry}
+use Rattle.world_view_laws.specs.eof_laws.posix_types.declared.tree.TreeNode.{TreeNode}
+use Rattle.world_view_laws.specs.eof_laws.posix_tables.Names.{is_root}
+use Rattle.world_view_laws.specs.eof_laws.posix_tables.Places.{node_of}
 use Rattle.world_view_laws.specs.world_image_laws.Images.{HasNoEntry}
 use Rattle.world_view_laws.specs.live_model.world_image_laws.BeginningLaws.{IsShapeOf}
 use Rattle.world_view_laws.specs.live_model.world_model.Shown.{IsTreeOfContent, shown_as}

@@ -1,7 +1,7 @@
 -- Each call of a World within a round is an act of its caller: a law for each answer, as one statement.
 use Rattle.std.specs.Prelude.{◌≡◌, ◌+◌, ◌^◌, ℕ, true}
-use Rattle.eof_laws.specs.pm_model.Powers.{Steps, Supply}
-use Rattle.eof_laws.specs.posix_types.declared.call.Who.{Who}
+use Rattle.world_view_laws.specs.eof_laws.pm_model.Powers.{Steps, Supply}
+use Rattle.world_view_laws.specs.eof_laws.posix_types.declared.call.Who.{Who}
 use Rattle.world_view_laws.specs.oplog_entry.declared.claims.Full.{Full}
 use Rattle.world_view_laws.specs.live_model.Standing.{JobOut}
 use Rattle.world_view_laws.specs.write_jobs.Jobs.{FilledView, JobView}

@@ -1,21 +1,21 @@
 -- A round of a World begins and ends, and the whole run, each law as one statement.
 use Rattle.std.specs.Prelude.{◌≡◌, ◌≤◌, ◌+◌, ◌^◌, ℕ, true, false, List, [], length, None, Ok}
-use Rattle.eof_laws.specs.pm_model.Cells.{cell, is_lent}
-use Rattle.eof_laws.specs.pm_model.Images.{IsImage}
-use Rattle.eof_laws.specs.pm_model.Parts.{Part}
-use Rattle.eof_laws.specs.pm_model.Words.{Words}
-use Rattle.eof_laws.specs.layout_model.Journal.{journaled}
-use Rattle.eof_laws.specs.layout_model.Places.{log_line}
-use Rattle.eof_laws.specs.image_model.Volume.{volume}
-use Rattle.eof_laws.specs.file_table.Files.{Files}
+use Rattle.world_view_laws.specs.eof_laws.pm_model.Cells.{cell, is_lent}
+use Rattle.world_view_laws.specs.eof_laws.pm_model.Images.{IsImage}
+use Rattle.world_view_laws.specs.eof_laws.pm_model.Parts.{Part}
+use Rattle.world_view_laws.specs.eof_laws.pm_model.Words.{Words}
+use Rattle.world_view_laws.specs.eof_laws.layout_model.Journal.{journaled}
+use Rattle.world_view_laws.specs.eof_laws.layout_model.Places.{log_line}
+use Rattle.world_view_laws.specs.eof_laws.image_model.Volume.{volume}
+use Rattle.world_view_laws.specs.eof_laws.file_table.Files.{Files}
 use Rattle.world_view_laws.specs.file_publish.k_split.Laps.{HasNextLap, HasSingleLog, IsLogWord}
 use Rattle.world_view_laws.specs.file_publish.k_split.LogLines.{AreLogLines}
 use Rattle.world_view_laws.specs.file_publish.k_split.Order.{IsInOrder}
-use Rattle.eof_laws.specs.k_journal.declared.outcomes.Commit.{Commit}
-use Rattle.eof_laws.specs.k_split_model.View.{View}
-use Rattle.eof_laws.specs.block_io.Lines.{LinesComeBack}
-use Rattle.eof_laws.specs.posix_tables.Open.{Tables}
-use Rattle.file_publish.specs.log_checkpoint.Gathers.{file_count, IsGatherAnswer, MayGather, total_runs}
+use Rattle.world_view_laws.specs.eof_laws.k_journal.declared.outcomes.Commit.{Commit}
+use Rattle.world_view_laws.specs.eof_laws.k_split_model.View.{View}
+use Rattle.world_view_laws.specs.eof_laws.block_io.Lines.{LinesComeBack}
+use Rattle.world_view_laws.specs.eof_laws.posix_tables.Open.{Tables}
+use Rattle.world_view_laws.specs.file_publish.log_checkpoint.Gathers.{file_count, IsGatherAnswer, MayGather, total_runs}
 use Rattle.world_view_laws.specs.file_publish.staging_files.GivesUp.{AllStagedSingle}
 use Rattle.world_view_laws.specs.world_image_laws.Images.{HasNoEntry}
 use Rattle.world_view_laws.specs.Lines.{HoldTheClaims}

@@ -1,7 +1,7 @@
 -- The sizes of the files of a mounted device.
 use Rattle.std.specs.Prelude.{◌≡◌, ℕ, [], length}
-use Rattle.eof_laws.specs.image_model.Volume.{inode, Volume}
-use Rattle.eof_laws.specs.file_table.Files.{Files, runs_in, size_in}
+use Rattle.world_view_laws.specs.eof_laws.image_model.Volume.{inode, Volume}
+use Rattle.world_view_laws.specs.eof_laws.file_table.Files.{Files, runs_in, size_in}
 
 -- THE TABLE HAS THE SIZES OF ALL INODES, and nothing is staged of any.
 pub record HasSizesOf (v : Volume) (t : Files) : Type 0 where

@@ -1,23 +1,23 @@
 -- How a World begins on a device that is mounted, each law as one statement.
 use Rattle.std.specs.Prelude.{◌≡◌, ◌≢◌, false, true, List, [], None}
-use Rattle.eof_laws.specs.pm_model.Cells.{AllHome}
-use Rattle.eof_laws.specs.pm_model.Images.{words_of}
-use Rattle.eof_laws.specs.pm_model.Words.{Words}
-use Rattle.eof_laws.specs.layout_model.Journal.{journaled}
-use Rattle.eof_laws.specs.layout_model.Places.{data_blocks, Geometry, IsGeometry, nodes}
-use Rattle.eof_laws.specs.image_model.Content.{content}
-use Rattle.eof_laws.specs.image_model.Live.{live_entries}
-use Rattle.eof_laws.specs.file_table.Files.{Files}
-use Rattle.eof_laws.specs.k_tables.ContentsTrees.{tree_content}
-use Rattle.eof_laws.specs.k_split_model.View.{View}
+use Rattle.world_view_laws.specs.eof_laws.pm_model.Cells.{AllHome}
+use Rattle.world_view_laws.specs.eof_laws.pm_model.Images.{words_of}
+use Rattle.world_view_laws.specs.eof_laws.pm_model.Words.{Words}
+use Rattle.world_view_laws.specs.eof_laws.layout_model.Journal.{journaled}
+use Rattle.world_view_laws.specs.eof_laws.layout_model.Places.{data_blocks, Geometry, IsGeometry, nodes}
+use Rattle.world_view_laws.specs.eof_laws.image_model.Content.{content}
+use Rattle.world_view_laws.specs.eof_laws.image_model.Live.{live_entries}
+use Rattle.world_view_laws.specs.eof_laws.file_table.Files.{Files}
+use Rattle.world_view_laws.specs.eof_laws.k_tables.ContentsTrees.{tree_content}
+use Rattle.world_view_laws.specs.eof_laws.k_split_model.View.{View}
 use Rattle.log_replay.specs.Mounts.{IsMounted}
-use Rattle.eof_laws.specs.posix_spec.Tree.{start}
-use Rattle.eof_laws.specs.posix_laws.TreeOf.{IsTreeOf}
-use Rattle.eof_laws.specs.posix_types.declared.call.Mode.{Mode}
-use Rattle.eof_laws.specs.posix_types.declared.reply.Shape.{Shape}
-use Rattle.eof_laws.specs.posix_types.declared.tree.TreeEntry.{TreeEntry}
-use Rattle.eof_laws.specs.posix_types.Scripts.{Scripts}
-use Rattle.eof_laws.specs.posix_tables.Open.{nothing_open}
+use Rattle.world_view_laws.specs.eof_laws.posix_spec.Tree.{start}
+use Rattle.world_view_laws.specs.eof_laws.posix_laws.TreeOf.{IsTreeOf}
+use Rattle.world_view_laws.specs.eof_laws.posix_types.declared.call.Mode.{Mode}
+use Rattle.world_view_laws.specs.eof_laws.posix_types.declared.reply.Shape.{Shape}
+use Rattle.world_view_laws.specs.eof_laws.posix_types.declared.tree.TreeEntry.{TreeEntry}
+use Rattle.world_view_laws.specs.eof_laws.posix_types.Scripts.{Scripts}
+use Rattle.world_view_laws.specs.eof_laws.posix_tables.Open.{nothing_open}
 use Rattle.world_view_laws.specs.Starts.{AreInLimits, BeginsMounted}
 use Rattle.world_view_laws.specs.Views.{disk_of, IsWorldOver, WorldView}
 use Rattle.world_view_laws.specs.live_model.staging_files.GivesUp.{nothing_staged}

@@ -11,10 +11,9 @@
 
 ghost use Rattle.round_laws.specs.EndsLaws.{AppliesClaims, EndsReady, EndsRunEmpty, EndsRunWhole, GoesIntoNextRound, LosesRoundBefore, LosesRoundInside, LosesRun, MayBegin, MayCrashWhole, MayEnd};
 
-use eof_laws::files_end_after_changes_of_maps;
-use file_publish::{all_files_are_gathered, what_stands_may_be_gathered};
 use world_view_laws::{
-    a_crash_keeps_the_promise, log_lines_come_home, publishing_leaves_what_is_out,
+    a_crash_keeps_the_promise, all_files_are_gathered, files_end_after_changes_of_maps,
+    log_lines_come_home, publishing_leaves_what_is_out, what_stands_may_be_gathered,
 };
 
 /// The log's lines may go out.

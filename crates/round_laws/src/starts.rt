@@ -12,8 +12,8 @@ ghost use Rattle.round_laws.specs.StartsLaws.{ShowsTree, StartsGoing, StartsMoun
 
 mod sizes;
 
-use eof_laws::files_end_after_changes_of_maps;
 pub use sizes::table_of;
+use world_view_laws::files_end_after_changes_of_maps;
 
 /// A mounted device: it has a tree, and a World begins on it.
 pub fn a_world_begins()
@@ -24,6 +24,7 @@ pub fn a_world_begins()
     files_end_after_changes_of_maps();
 }
 
-pub use eof_laws::{Commit, KSplit, Staging};
 pub use log_replay::{MountFault, a_remount_shows_the_same, mount};
-pub use world_view_laws::{FilledJob, Full, Job, OpenFiles, calls_made, no_calls, script_length};
+pub use world_view_laws::{
+    Commit, FilledJob, Full, Job, KSplit, OpenFiles, Staging, calls_made, no_calls, script_length,
+};

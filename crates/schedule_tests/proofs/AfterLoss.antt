@@ -4,34 +4,34 @@ use Rattle.std.specs.List.{remove}
 use Rattle.std.proofs.Common.{arith, ap, ◌∙◌, sym, subst, inl, inr}
 use Rattle.std.proofs.lemmas.Bool.{cases_eq}
 use Rattle.std.proofs.lemmas.Option.{same_Some, slice_get_within}
-use Rattle.run_laws.specs.layout_model.declared.lines.Draft.{Draft}
-use Rattle.run_laws.specs.image_model.LogRule.{HoldsEntry}
-use Rattle.run_laws.specs.oplog_entry.declared.claims.Full.{Full}
-use Rattle.run_laws.specs.oplog_entry.LogLines.{line_at}
-use Rattle.run_laws.specs.pm_model.Powers.{Supply}
-use Rattle.run_laws.specs.list_laws.Filters.{In-map}
-use Rattle.run_laws.specs.list_laws.Members.{In}
-use Rattle.run_laws.specs.live_model.Standing.{JobOut}
-use Rattle.run_laws.specs.round_log.Rounds.{IsClaimed, RoundView}
-use Rattle.run_laws.specs.write_end.Blocks.{AreBlocksHome}
-use Rattle.run_laws.specs.write_jobs.Jobs.{FilledView, JobView}
-use Rattle.run_laws.specs.world_view_laws.Begins.{IsFilledOut, IsJobOut, OthersStay}
-use Rattle.run_laws.specs.world_view_laws.Jobs.{GivesUp, HomesStay, IsOfWorld, LosesFinish, over_by}
-use Rattle.run_laws.specs.world_view_laws.Losses.{MayCrash}
-use Rattle.run_laws.specs.world_view_laws.Views.{WorldView}
+use Rattle.split_machine.specs.run_laws.layout_model.declared.lines.Draft.{Draft}
+use Rattle.split_machine.specs.run_laws.image_model.LogRule.{HoldsEntry}
+use Rattle.split_machine.specs.run_laws.oplog_entry.declared.claims.Full.{Full}
+use Rattle.split_machine.specs.run_laws.oplog_entry.LogLines.{line_at}
+use Rattle.split_machine.specs.run_laws.pm_model.Powers.{Supply}
+use Rattle.split_machine.specs.run_laws.list_laws.Filters.{In-map}
+use Rattle.split_machine.specs.run_laws.list_laws.Members.{In}
+use Rattle.split_machine.specs.run_laws.live_model.Standing.{JobOut}
+use Rattle.split_machine.specs.run_laws.round_log.Rounds.{IsClaimed, RoundView}
+use Rattle.split_machine.specs.run_laws.write_end.Blocks.{AreBlocksHome}
+use Rattle.split_machine.specs.run_laws.write_jobs.Jobs.{FilledView, JobView}
+use Rattle.split_machine.specs.run_laws.world_view_laws.Begins.{IsFilledOut, IsJobOut, OthersStay}
+use Rattle.split_machine.specs.run_laws.world_view_laws.Jobs.{GivesUp, HomesStay, IsOfWorld, LosesFinish, over_by}
+use Rattle.split_machine.specs.run_laws.world_view_laws.Losses.{MayCrash}
+use Rattle.split_machine.specs.run_laws.world_view_laws.Views.{WorldView}
 use Rattle.posix_types.specs.declared.call.Who.{Who}
-use Rattle.run_laws.specs.declared.held.Held.{Held}
-use Rattle.run_laws.specs.declared.held.Work.{Work}
-use Rattle.run_laws.specs.Between.{Between, CanCrash}
-use Rattle.run_laws.specs.EventsLaws.{held, IsHeldAt, with_log, without_job}
-use Rattle.run_laws.specs.Held.{filled_of, HasLog, IsLogOf, IsWorkOut, jobs_of, lines_in, OutView}
-use Rattle.run_laws.proofs.Crashes.{AreOut, log_left, may_crash, work_out}
-use Rattle.run_laws.proofs.Few.{without_place}
-use Rattle.run_laws.proofs.Lines.{log_finished, log_later, log_without, slot_below}
-use Rattle.run_laws.proofs.Places.{at_In, In_at, place_there, skip, skip_apart, skip_back, skip_one, taken_at}
-use Rattle.run_laws.proofs.Slots.{slot_there}
-use Rattle.run_laws.proofs.Stays.{callers_taken, drafts_taken, In_taken, open_calls, work_stays}
-use Rattle.run_laws.proofs.Checks.{crashes_between}
+use Rattle.split_machine.specs.run_laws.declared.held.Held.{Held}
+use Rattle.split_machine.specs.run_laws.declared.held.Work.{Work}
+use Rattle.split_machine.specs.run_laws.Between.{Between, CanCrash}
+use Rattle.split_machine.specs.run_laws.EventsLaws.{held, IsHeldAt, with_log, without_job}
+use Rattle.split_machine.specs.run_laws.Held.{filled_of, HasLog, IsLogOf, IsWorkOut, jobs_of, lines_in, OutView}
+use Rattle.split_machine.proofs.run_laws_proofs.Crashes.{AreOut, log_left, may_crash, work_out}
+use Rattle.split_machine.proofs.run_laws_proofs.Few.{without_place}
+use Rattle.split_machine.proofs.run_laws_proofs.Lines.{log_finished, log_later, log_without, slot_below}
+use Rattle.split_machine.proofs.run_laws_proofs.Places.{at_In, In_at, place_there, skip, skip_apart, skip_back, skip_one, taken_at}
+use Rattle.split_machine.proofs.run_laws_proofs.Slots.{slot_there}
+use Rattle.split_machine.proofs.run_laws_proofs.Stays.{callers_taken, drafts_taken, In_taken, open_calls, work_stays}
+use Rattle.split_machine.proofs.run_laws_proofs.Checks.{crashes_between}
 use Rattle.split_machine.specs.Events.{IsUnderWay}
 use Rattle.split_machine.proofs.Begins.{none_some}
 use Rattle.schedule_tests.specs.Losses.{AreStillHeld, GivesWork, IsAfterLoss, IsAtMoment, LosesWork, MayFinish, MayGiveUp}

@@ -2,10 +2,10 @@
 use Rattle.std.specs.Prelude.{◌≡◌, ◌≢◌, ◌⊎◌, ℕ, true, false, [], IsSome}
 use Rattle.std.proofs.Common.{subst, sym}
 use Rattle.posix_types.specs.declared.call.Who.{Who}
-use Rattle.run_laws.specs.pm_model.Powers.{is_on, Supply}
-use Rattle.run_laws.specs.world_view_laws.Views.{WorldView}
-use Rattle.run_laws.specs.Between.{Between, GoesOn}
-use Rattle.run_laws.specs.Held.{nothing_out, OutView}
+use Rattle.split_machine.specs.run_laws.pm_model.Powers.{is_on, Supply}
+use Rattle.split_machine.specs.run_laws.world_view_laws.Views.{WorldView}
+use Rattle.split_machine.specs.run_laws.Between.{Between, GoesOn}
+use Rattle.split_machine.specs.run_laws.Held.{nothing_out, OutView}
 use Rattle.split_machine.specs.run_laws.Runs.{IsFirst}
 use Rattle.split_machine.specs.declared.outstanding.Acted.{Acted}
 use Rattle.split_machine.specs.Events.{IsActed, IsOpen, IsUnderWay}

@@ -1,19 +1,19 @@
 -- What is so between two steps of a row: while the power is on, and once the World was told that it went.
 use Rattle.std.specs.Prelude.{◌≡◌, ◌⊎◌, ◌<◌, ℕ, true, false, List, [], Some, Err, slice_get}
-use Rattle.run_laws.specs.oplog_entry.declared.claims.Full.{Full}
-use Rattle.run_laws.specs.pm_model.Powers.{Supply}
-use Rattle.run_laws.specs.list_laws.Members.{In}
-use Rattle.run_laws.specs.live_model.Standing.{JobOut}
-use Rattle.run_laws.specs.round_log.Rounds.{IsClaimed, RoundView}
-use Rattle.run_laws.specs.write_end.Blocks.{AreBlocksHome}
-use Rattle.run_laws.specs.world_view_laws.Begins.{IsFilledOut}
-use Rattle.run_laws.specs.world_view_laws.Jobs.{GivesUp, IsOfWorld, LosesFinish}
-use Rattle.run_laws.specs.world_view_laws.Views.{WorldView}
-use Rattle.run_laws.specs.declared.held.Held.{Held}
-use Rattle.run_laws.specs.declared.held.Work.{Work}
-use Rattle.run_laws.specs.EventsLaws.{IsHere}
-use Rattle.run_laws.specs.Between.{AreNextCalls, HaveOwnCallers, HaveOwnDrafts}
-use Rattle.run_laws.specs.Held.{IsLogOf, IsWorkOut, OutView}
+use Rattle.split_machine.specs.run_laws.oplog_entry.declared.claims.Full.{Full}
+use Rattle.split_machine.specs.run_laws.pm_model.Powers.{Supply}
+use Rattle.split_machine.specs.run_laws.list_laws.Members.{In}
+use Rattle.split_machine.specs.run_laws.live_model.Standing.{JobOut}
+use Rattle.split_machine.specs.run_laws.round_log.Rounds.{IsClaimed, RoundView}
+use Rattle.split_machine.specs.run_laws.write_end.Blocks.{AreBlocksHome}
+use Rattle.split_machine.specs.run_laws.world_view_laws.Begins.{IsFilledOut}
+use Rattle.split_machine.specs.run_laws.world_view_laws.Jobs.{GivesUp, IsOfWorld, LosesFinish}
+use Rattle.split_machine.specs.run_laws.world_view_laws.Views.{WorldView}
+use Rattle.split_machine.specs.run_laws.declared.held.Held.{Held}
+use Rattle.split_machine.specs.run_laws.declared.held.Work.{Work}
+use Rattle.split_machine.specs.run_laws.EventsLaws.{IsHere}
+use Rattle.split_machine.specs.run_laws.Between.{AreNextCalls, HaveOwnCallers, HaveOwnDrafts}
+use Rattle.split_machine.specs.run_laws.Held.{IsLogOf, IsWorkOut, OutView}
 use Rattle.split_machine.specs.Events.{IsUnderWay}
 
 -- Each job that is held is one of the World, at a place of its own; and those of the World that are not held finished behind the loss, so

@@ -19,3 +19,4 @@ pub use Rattle.run_laws.specs.image_model as image_model
 pub use Rattle.run_laws.specs.k_split_model as k_split_model
 pub use Rattle.run_laws.specs.posix_laws as posix_laws
 pub use Rattle.run_laws.specs.volume_laws as volume_laws
+pub use Rattle.split_world.specs as split_world

@@ -22,7 +22,7 @@ mod work;
 pub use events::caller_event;
 pub use outstanding::{Acted, Out, place_of};
 pub use rounds::open_round;
-pub use run_laws::{KSplit, NoMemory, a_round_goes_beside};
+pub use run_laws::{KSplit, NoMemory, RoundLog, Work, a_round_goes_beside};
 pub use runs::{crash, run};
 pub use schedule::Order;
 pub use split_world::{

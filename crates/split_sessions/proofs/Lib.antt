@@ -1,0 +1,1 @@
+pub use Rattle.split_top.proofs as split_top_proofs

@@ -11,18 +11,18 @@ use Rattle.oplog_tail.specs.Logs.{IsSeatOf, LogView}
 use Rattle.oplog_tail.specs.Seats.{SeatView}
 use Rattle.oplog_tail.specs.oplog_entry.LogLines.{line_at}
 use Rattle.ruled_turn.specs.Passes.{HaveViews, PassView, TurnView}
-use Rattle.world_view_laws.specs.image_model.LogRule.{IsAsAtFirst}
-use Rattle.world_view_laws.specs.oplog_entry.layout_model.Places.{Geometry, log_line}
-use Rattle.world_view_laws.specs.block_io.Lines.{AreFrom}
-use Rattle.world_view_laws.specs.pm_model.Parts.{Part}
-use Rattle.world_view_laws.specs.pm_model.Powers.{Supply}
-use Rattle.world_view_laws.specs.list_laws.Filters.{In-map, map-In}
-use Rattle.world_view_laws.specs.list_laws.Members.{In, In-slice_get, slice_get-In}
-use Rattle.world_view_laws.specs.posix_types.declared.call.Call.{Call}
-use Rattle.world_view_laws.specs.posix_types.declared.call.Who.{Who}
-use Rattle.world_view_laws.specs.posix_spec.Scripted.{items_of}
-use Rattle.world_view_laws.specs.Lines.{AreFresh}
-use Rattle.world_view_laws.specs.Views.{first_by, next_of, WorldView}
+use Rattle.thread_laws.specs.world_view_laws.image_model.LogRule.{IsAsAtFirst}
+use Rattle.thread_laws.specs.world_view_laws.oplog_entry.layout_model.Places.{Geometry, log_line}
+use Rattle.thread_laws.specs.world_view_laws.block_io.Lines.{AreFrom}
+use Rattle.thread_laws.specs.world_view_laws.pm_model.Parts.{Part}
+use Rattle.thread_laws.specs.world_view_laws.pm_model.Powers.{Supply}
+use Rattle.thread_laws.specs.world_view_laws.list_laws.Filters.{In-map, map-In}
+use Rattle.thread_laws.specs.world_view_laws.list_laws.Members.{In, In-slice_get, slice_get-In}
+use Rattle.thread_laws.specs.world_view_laws.posix_types.declared.call.Call.{Call}
+use Rattle.thread_laws.specs.world_view_laws.posix_types.declared.call.Who.{Who}
+use Rattle.thread_laws.specs.world_view_laws.posix_spec.Scripted.{items_of}
+use Rattle.thread_laws.specs.world_view_laws.Lines.{AreFresh}
+use Rattle.thread_laws.specs.world_view_laws.Views.{first_by, next_of, WorldView}
 use Rattle.thread_laws.specs.Hands.{HandView, Lap, lap_of}
 use Rattle.thread_laws.specs.Places.{In-Contains, mapped_at}
 use Rattle.thread_laws.specs.Returned.{filled_jobs_left, filled_left, HaveWorkers, IsClosed, IsReturned, job_left, jobs_left, Returned, seats_of}

@@ -5,10 +5,10 @@ use Rattle.std.proofs.lemmas.Option.{slice_get_within}
 use Rattle.ruled_turn.specs.Passes.{outside_pass, passes_with, PassView, TurnView}
 use Rattle.oplog_tail.specs.Logs.{at_first, LogView}
 use Rattle.oplog_tail.specs.Seats.{SeatView}
-use Rattle.world_view_laws.specs.list_laws.Members.{slice_get-push}
-use Rattle.world_view_laws.specs.pm_model.Powers.{Supply}
-use Rattle.world_view_laws.specs.posix_types.declared.call.Who.{Who}
-use Rattle.world_view_laws.specs.Views.{WorldView}
+use Rattle.thread_laws.specs.world_view_laws.list_laws.Members.{slice_get-push}
+use Rattle.thread_laws.specs.world_view_laws.pm_model.Powers.{Supply}
+use Rattle.thread_laws.specs.world_view_laws.posix_types.declared.call.Who.{Who}
+use Rattle.thread_laws.specs.world_view_laws.Views.{WorldView}
 use Rattle.thread_laws.specs.Hands.{first_hands, HandView, lap_of, newcomer}
 use Rattle.split_threads.specs.Backs.{caller_at}
 use Rattle.split_threads.specs.Dealt.{AreDealt, AreNewWorkers, fresh_power, HasPlace, IsNewWorker, number_at}

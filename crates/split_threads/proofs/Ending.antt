@@ -2,18 +2,18 @@
 use Rattle.std.specs.Prelude.{◌≡◌, ◌≢◌, ◌<◌, ◌≤◌, ◌+◌, ◌^◌, ℕ, true, false, List, [], length, slice_get, Some, None, Ok, Err, IfOk, Result, refl}
 use Rattle.std.proofs.Common.{arith, ap, ◌∙◌, sym, subst, inl, inr}
 use Rattle.std.proofs.lemmas.Bool.{cases_lt}
-use Rattle.world_view_laws.specs.pm_model.declared.Cell.{Cell}
-use Rattle.world_view_laws.specs.pm_model.Parts.{Part}
-use Rattle.world_view_laws.specs.pm_model.Powers.{is_on, Steps, Supply}
-use Rattle.world_view_laws.specs.posix_types.declared.call.Call.{Call}
-use Rattle.world_view_laws.specs.posix_types.declared.call.Who.{Who}
-use Rattle.world_view_laws.specs.posix_types.declared.item.Item.{Item}
-use Rattle.world_view_laws.specs.posix_spec.Run.{Unfinished}
-use Rattle.world_view_laws.specs.posix_spec.Scripted.{items_of}
-use Rattle.world_view_laws.specs.live_model.Standing.{JobOut}
-use Rattle.world_view_laws.specs.list_laws.Members.{In}
-use Rattle.world_view_laws.specs.Rounds.{IsLeft, LosesRound, MayUnmount}
-use Rattle.world_view_laws.specs.Views.{next_of, WorldView}
+use Rattle.thread_laws.specs.world_view_laws.pm_model.declared.Cell.{Cell}
+use Rattle.thread_laws.specs.world_view_laws.pm_model.Parts.{Part}
+use Rattle.thread_laws.specs.world_view_laws.pm_model.Powers.{is_on, Steps, Supply}
+use Rattle.thread_laws.specs.world_view_laws.posix_types.declared.call.Call.{Call}
+use Rattle.thread_laws.specs.world_view_laws.posix_types.declared.call.Who.{Who}
+use Rattle.thread_laws.specs.world_view_laws.posix_types.declared.item.Item.{Item}
+use Rattle.thread_laws.specs.world_view_laws.posix_spec.Run.{Unfinished}
+use Rattle.thread_laws.specs.world_view_laws.posix_spec.Scripted.{items_of}
+use Rattle.thread_laws.specs.world_view_laws.live_model.Standing.{JobOut}
+use Rattle.thread_laws.specs.world_view_laws.list_laws.Members.{In}
+use Rattle.thread_laws.specs.world_view_laws.Rounds.{IsLeft, LosesRound, MayUnmount}
+use Rattle.thread_laws.specs.world_view_laws.Views.{next_of, WorldView}
 use Rattle.split_world.specs.world_parts.Answers.{IsEnded, IsReady}
 use Rattle.split_world.specs.world_parts.declared.outcomes.Crashed.{Crashed}
 use Rattle.split_world.specs.world_parts.declared.outcomes.Ended.{Ended}
@@ -21,7 +21,7 @@ use Rattle.split_world.specs.world_parts.declared.outcomes.Ready.{Ready}
 use Rattle.thread_laws.specs.EndsLaws.{LostIsBounded, LostMayCrash}
 use Rattle.thread_laws.specs.MovesLaws.{AreFewActs}
 use Rattle.thread_laws.specs.Stands.{IsInRound}
-use Rattle.world_view_laws.specs.file_calls.declared.names.outcomes.NoMemory.{NoMemory}
+use Rattle.thread_laws.specs.world_view_laws.file_calls.declared.names.outcomes.NoMemory.{NoMemory}
 use Rattle.thread_laws.specs.Hands.{lap_of}
 use Rattle.split_threads.specs.Rounds.{IsLeftOf, IsTurned, IsTurnedFrom}
 use Rattle.split_threads.specs.declared.closes.Turned.{Turned}

@@ -3,15 +3,15 @@ use Rattle.std.specs.Prelude.{◌≡◌, ◌<◌, ℕ, true, false, [], ◌∷�
 use Rattle.std.proofs.Common.{ap, ◌∙◌, sym, subst, inl, inr}
 use Rattle.atomic_table.specs.Seated.{TableId}
 use Rattle.ruled_turn.specs.Passes.{entered, inside_pass, outside_pass, PassView}
-use Rattle.world_view_laws.specs.in_flight.Costs.{most_of}
-use Rattle.world_view_laws.specs.pm_model.Powers.{Steps, Supply}
-use Rattle.world_view_laws.specs.oplog_entry.layout_model.declared.lines.Draft.{Draft}
-use Rattle.world_view_laws.specs.declared.views.over.Over.{Over}
+use Rattle.thread_laws.specs.world_view_laws.in_flight.Costs.{most_of}
+use Rattle.thread_laws.specs.world_view_laws.pm_model.Powers.{Steps, Supply}
+use Rattle.thread_laws.specs.world_view_laws.oplog_entry.layout_model.declared.lines.Draft.{Draft}
+use Rattle.thread_laws.specs.world_view_laws.declared.views.over.Over.{Over}
 use Rattle.thread_laws.specs.declared.works.Next.{Next}
-use Rattle.world_view_laws.specs.posix_types.declared.call.Who.{Who}
-use Rattle.world_view_laws.specs.write_jobs.Jobs.{FilledView}
-use Rattle.world_view_laws.specs.Jobs.{IsOfWorld}
-use Rattle.world_view_laws.specs.Views.{next_of, WorldView}
+use Rattle.thread_laws.specs.world_view_laws.posix_types.declared.call.Who.{Who}
+use Rattle.thread_laws.specs.world_view_laws.write_jobs.Jobs.{FilledView}
+use Rattle.thread_laws.specs.world_view_laws.Jobs.{IsOfWorld}
+use Rattle.thread_laws.specs.world_view_laws.Views.{next_of, WorldView}
 use Rattle.split_world.specs.world_parts.Answers.{IsBegun, IsFinished}
 use Rattle.split_world.specs.world_parts.declared.outcomes.Begun.{Begun}
 use Rattle.split_world.specs.world_parts.declared.outcomes.Finished.{Finished}

@@ -7,10 +7,10 @@ use Rattle.std.proofs.lemmas.List.{length-map}
 use Rattle.std.proofs.lemmas.List.FromFn.{length-range_with_len}
 use Rattle.atomic_table.specs.Seated.{TableId}
 use Rattle.ruled_turn.specs.Passes.{outside_pass, passes_with, PassView}
-use Rattle.world_view_laws.specs.pm_model.Powers.{Supply}
-use Rattle.world_view_laws.specs.list_laws.Members.{slice_get-push}
-use Rattle.world_view_laws.specs.posix_types.declared.call.Who.{Who}
-use Rattle.world_view_laws.specs.Views.{WorldView}
+use Rattle.thread_laws.specs.world_view_laws.pm_model.Powers.{Supply}
+use Rattle.thread_laws.specs.world_view_laws.list_laws.Members.{slice_get-push}
+use Rattle.thread_laws.specs.world_view_laws.posix_types.declared.call.Who.{Who}
+use Rattle.thread_laws.specs.world_view_laws.Views.{WorldView}
 use Rattle.thread_laws.specs.Hands.{callers_for, first_hands, HandView, newcomer}
 use Rattle.thread_laws.specs.Places.{mapped_at, ranged_at}
 use Rattle.split_threads.specs.Backs.{caller_at}

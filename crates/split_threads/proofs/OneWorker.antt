@@ -8,10 +8,10 @@ use Rattle.oplog_tail.specs.declared.appends.Appended.{Appended}
 use Rattle.oplog_tail.specs.declared.appends.Receipt.{Receipt}
 use Rattle.oplog_tail.specs.oplog_entry.declared.claims.Full.{Full}
 use Rattle.ruled_turn.specs.Passes.{outside_pass, PassView, TurnView}
-use Rattle.world_view_laws.specs.pm_model.Powers.{is_on, Steps, Supply}
-use Rattle.world_view_laws.specs.posix_types.declared.call.Who.{Who}
-use Rattle.world_view_laws.specs.write_jobs.Jobs.{FilledView, IsCutOff, IsFilled, JobView}
-use Rattle.world_view_laws.specs.Views.{WorldView}
+use Rattle.thread_laws.specs.world_view_laws.pm_model.Powers.{is_on, Steps, Supply}
+use Rattle.thread_laws.specs.world_view_laws.posix_types.declared.call.Who.{Who}
+use Rattle.thread_laws.specs.world_view_laws.write_jobs.Jobs.{FilledView, IsCutOff, IsFilled, JobView}
+use Rattle.thread_laws.specs.world_view_laws.Views.{WorldView}
 use Rattle.thread_laws.specs.Hands.{HandView, Lap}
 use Rattle.thread_laws.specs.MovesLaws.{CutKeepsJob, FilledKeepsJob}
 use Rattle.thread_laws.specs.States.{IsIdle}

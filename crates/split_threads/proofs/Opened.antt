@@ -8,12 +8,12 @@ use Rattle.oplog_tail.specs.Logs.{at_first, LogView}
 use Rattle.oplog_tail.specs.Seats.{SeatView}
 use Rattle.ruled_turn.specs.Passes.{outside_pass, passes_with, PassView}
 use Rattle.atomic_table.specs.Seated.{TableId}
-use Rattle.world_view_laws.specs.pm_model.Parts.{Part}
-use Rattle.world_view_laws.specs.pm_model.Powers.{Supply}
-use Rattle.world_view_laws.specs.file_calls.declared.names.outcomes.NoMemory.{NoMemory}
-use Rattle.world_view_laws.specs.Lines.{AreFresh}
-use Rattle.world_view_laws.specs.Rounds.{IsRoundBegun}
-use Rattle.world_view_laws.specs.Views.{WorldView}
+use Rattle.thread_laws.specs.world_view_laws.pm_model.Parts.{Part}
+use Rattle.thread_laws.specs.world_view_laws.pm_model.Powers.{Supply}
+use Rattle.thread_laws.specs.world_view_laws.file_calls.declared.names.outcomes.NoMemory.{NoMemory}
+use Rattle.thread_laws.specs.world_view_laws.Lines.{AreFresh}
+use Rattle.thread_laws.specs.world_view_laws.Rounds.{IsRoundBegun}
+use Rattle.thread_laws.specs.world_view_laws.Views.{WorldView}
 use Rattle.thread_laws.specs.Hands.{first_hands, HandView, lap_of}
 use Rattle.thread_laws.specs.Kept.{sized_hands}
 use Rattle.thread_laws.specs.Moves.{MayOpen}

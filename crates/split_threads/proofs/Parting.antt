@@ -5,7 +5,7 @@ use Rattle.std.proofs.Common.{arith, ap, ◌∙◌, sym, length-append}
 use Rattle.std.proofs.lemmas.List.{length-map}
 use Rattle.oplog_tail.specs.Seats.{SeatView}
 use Rattle.ruled_turn.specs.Passes.{PassView}
-use Rattle.world_view_laws.specs.write_jobs.Jobs.{FilledView, JobView}
+use Rattle.thread_laws.specs.world_view_laws.write_jobs.Jobs.{FilledView, JobView}
 use Rattle.thread_laws.specs.Hands.{HandView}
 use Rattle.thread_laws.specs.Returned.{filled_left, job_left}
 use Rattle.split_threads.specs.Parted.{ArePartedFrom, as_list, HasRoom, IsPartedMore, IsRoom}

@@ -2,7 +2,7 @@
 use Rattle.std.specs.Prelude.{◌≡◌, ◌<◌, ◌+◌, ℕ, zero, suc, List, [], ◌∷◌, ◌++◌, length, map, replicate, slice_get, slice_set, Some, refl}
 use Rattle.std.specs.List.{enumerate_from}
 use Rattle.std.proofs.Common.{arith, ap, ◌∙◌, inl, inr, length-append}
-use Rattle.world_view_laws.specs.list_laws.Members.{slice_get-front, slice_get-last, slice_get-push}
+use Rattle.thread_laws.specs.world_view_laws.list_laws.Members.{slice_get-front, slice_get-last, slice_get-push}
 
 -- what stands at a place of the first list stands there in the second
 abbrev pub IsFront : {X : Type 0} → List X → List X → Type 0

@@ -5,12 +5,12 @@ use Rattle.std.proofs.lemmas.Bool.{cases_lt}
 use Rattle.std.proofs.lemmas.Bool.Decides.{nat_tests}
 use Rattle.std.proofs.lemmas.Option.{slice_get_within}
 use Rattle.ruled_turn.specs.Passes.{outside_pass, PassView, TurnView}
-use Rattle.world_view_laws.specs.pm_model.Powers.{Supply}
-use Rattle.world_view_laws.specs.posix_types.declared.call.Who.{Who}
-use Rattle.world_view_laws.specs.posix_spec.Scripted.{IsSetUp}
-use Rattle.world_view_laws.specs.declared.views.over.Over.{Over}
-use Rattle.world_view_laws.specs.Acts.{shows}
-use Rattle.world_view_laws.specs.Views.{WorldView}
+use Rattle.thread_laws.specs.world_view_laws.pm_model.Powers.{Supply}
+use Rattle.thread_laws.specs.world_view_laws.posix_types.declared.call.Who.{Who}
+use Rattle.thread_laws.specs.world_view_laws.posix_spec.Scripted.{IsSetUp}
+use Rattle.thread_laws.specs.world_view_laws.declared.views.over.Over.{Over}
+use Rattle.thread_laws.specs.world_view_laws.Acts.{shows}
+use Rattle.thread_laws.specs.world_view_laws.Views.{WorldView}
 use Rattle.thread_laws.specs.Hands.{HandView, Sees, Shown}
 use Rattle.thread_laws.specs.Moves.{Knows, MayLeave, next-last, next-who, next_hand}
 use Rattle.thread_laws.specs.MovesLaws.{FoundMayLeave}

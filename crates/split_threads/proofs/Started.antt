@@ -5,12 +5,12 @@ use Rattle.std.proofs.lemmas.Option.{slice_get_within}
 use Rattle.oplog_tail.specs.Logs.{LogView}
 use Rattle.oplog_tail.specs.Seats.{SeatView}
 use Rattle.ruled_turn.specs.Passes.{outside_pass, PassView, TurnView}
-use Rattle.world_view_laws.specs.oplog_entry.layout_model.declared.lines.Draft.{Draft}
-use Rattle.world_view_laws.specs.pm_model.Powers.{Supply}
-use Rattle.world_view_laws.specs.list_laws.Filters.{In-map, map-In}
-use Rattle.world_view_laws.specs.list_laws.Members.{In, In-slice_get, pushed-In, slice_get-front, slice_get-In, slice_get-last, slice_get-push}
-use Rattle.world_view_laws.specs.posix_types.declared.call.Who.{Who}
-use Rattle.world_view_laws.specs.Views.{WorldView}
+use Rattle.thread_laws.specs.world_view_laws.oplog_entry.layout_model.declared.lines.Draft.{Draft}
+use Rattle.thread_laws.specs.world_view_laws.pm_model.Powers.{Supply}
+use Rattle.thread_laws.specs.world_view_laws.list_laws.Filters.{In-map, map-In}
+use Rattle.thread_laws.specs.world_view_laws.list_laws.Members.{In, In-slice_get, pushed-In, slice_get-front, slice_get-In, slice_get-last, slice_get-push}
+use Rattle.thread_laws.specs.world_view_laws.posix_types.declared.call.Who.{Who}
+use Rattle.thread_laws.specs.world_view_laws.Views.{WorldView}
 use Rattle.thread_laws.specs.EndsLaws.{StillIsReturned, WorkedIsReturned}
 use Rattle.thread_laws.specs.Hands.{Gone, HandView, Lap, lap_of, newcomer, Nothing, Sees, Shown}
 use Rattle.thread_laws.specs.Places.{In-front, one_at}

@@ -1,25 +1,25 @@
 -- From round to round: what a run begins with, what a round is opened with, and what it leaves.
 use Rattle.std.specs.Prelude.{◌≡◌, ◌≤◌, ◌*◌, ◌^◌, ℕ, true, false, List, [], length, Option, refl}
 use Rattle.std.proofs.Common.{arith, ap, ◌∙◌, sym, subst}
-use Rattle.world_view_laws.specs.pm_model.declared.Cell.{Cell}
-use Rattle.world_view_laws.specs.pm_model.Cells.{cell}
-use Rattle.world_view_laws.specs.pm_model.Images.{IsImage}
-use Rattle.world_view_laws.specs.pm_model.Powers.{Supply}
-use Rattle.world_view_laws.specs.pm_model.Words.{Words}
-use Rattle.world_view_laws.specs.image_model.Content.{content}
-use Rattle.world_view_laws.specs.image_model.Honest.{IsHonest}
-use Rattle.world_view_laws.specs.oplog_entry.layout_model.Places.{Geometry}
-use Rattle.world_view_laws.specs.posix_types.declared.item.Item.{Item}
-use Rattle.world_view_laws.specs.posix_types.declared.tree.TreeEntry.{TreeEntry}
-use Rattle.world_view_laws.specs.posix_types.Scripts.{Scripts}
-use Rattle.world_view_laws.specs.posix_spec.Run.{IsLegal, run, Unfinished}
-use Rattle.world_view_laws.specs.posix_spec.Scripted.{IsComplete, Scripted}
-use Rattle.world_view_laws.specs.posix_spec.State.{State}
-use Rattle.world_view_laws.specs.posix_spec.Tree.{tree}
-use Rattle.world_view_laws.specs.posix_spec.Unfinished.{AreUnfinished}
-use Rattle.world_view_laws.specs.in_flight.world_model.Shown.{IsTreeOfContent}
-use Rattle.world_view_laws.specs.world_image_laws.Promised.{KeepsPromise}
-use Rattle.world_view_laws.specs.Views.{Disk, WorldView}
+use Rattle.thread_laws.specs.world_view_laws.pm_model.declared.Cell.{Cell}
+use Rattle.thread_laws.specs.world_view_laws.pm_model.Cells.{cell}
+use Rattle.thread_laws.specs.world_view_laws.pm_model.Images.{IsImage}
+use Rattle.thread_laws.specs.world_view_laws.pm_model.Powers.{Supply}
+use Rattle.thread_laws.specs.world_view_laws.pm_model.Words.{Words}
+use Rattle.thread_laws.specs.world_view_laws.image_model.Content.{content}
+use Rattle.thread_laws.specs.world_view_laws.image_model.Honest.{IsHonest}
+use Rattle.thread_laws.specs.world_view_laws.oplog_entry.layout_model.Places.{Geometry}
+use Rattle.thread_laws.specs.world_view_laws.posix_types.declared.item.Item.{Item}
+use Rattle.thread_laws.specs.world_view_laws.posix_types.declared.tree.TreeEntry.{TreeEntry}
+use Rattle.thread_laws.specs.world_view_laws.posix_types.Scripts.{Scripts}
+use Rattle.thread_laws.specs.world_view_laws.posix_spec.Run.{IsLegal, run, Unfinished}
+use Rattle.thread_laws.specs.world_view_laws.posix_spec.Scripted.{IsComplete, Scripted}
+use Rattle.thread_laws.specs.world_view_laws.posix_spec.State.{State}
+use Rattle.thread_laws.specs.world_view_laws.posix_spec.Tree.{tree}
+use Rattle.thread_laws.specs.world_view_laws.posix_spec.Unfinished.{AreUnfinished}
+use Rattle.thread_laws.specs.world_view_laws.in_flight.world_model.Shown.{IsTreeOfContent}
+use Rattle.thread_laws.specs.world_view_laws.world_image_laws.Promised.{KeepsPromise}
+use Rattle.thread_laws.specs.world_view_laws.Views.{Disk, WorldView}
 use Rattle.split_world.specs.world_parts.declared.outcomes.Ended.{Ended}
 use Rattle.thread_laws.specs.Hands.{Lap, lap_of}
 use Rattle.thread_laws.specs.Moves.{MayOpen}

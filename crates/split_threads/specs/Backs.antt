@@ -1,11 +1,10 @@
 -- What comes back of the workers of a round.
 use Rattle.std.specs.Prelude.{◌≡◌, ◌≤◌, ◌-◌, ◌==◌, ℕ, if◌then◌else◌, List, length, map, slice_get, slice_index_or, Some}
-use Rattle.oplog_tail.specs.Logs.{LogView}
+use Rattle.oplog_tail.specs.Logs.{LogView, IsSeatOf}
 use Rattle.ruled_turn.specs.Passes.{outside_pass, PassView, TurnView}
-use Rattle.oplog_tail.specs.Logs.{IsSeatOf}
-use Rattle.world_view_laws.specs.pm_model.Powers.{Supply}
-use Rattle.world_view_laws.specs.posix_types.declared.call.Who.{Who}
-use Rattle.world_view_laws.specs.Views.{WorldView}
+use Rattle.thread_laws.specs.world_view_laws.pm_model.Powers.{Supply}
+use Rattle.thread_laws.specs.world_view_laws.posix_types.declared.call.Who.{Who}
+use Rattle.thread_laws.specs.world_view_laws.Views.{WorldView}
 use Rattle.thread_laws.specs.Hands.{HandView, newcomer}
 use Rattle.thread_laws.specs.Returned.{HaveStopped, IsReturned, Returned}
 use Rattle.thread_laws.specs.Works.{HasWorked, IsLater}

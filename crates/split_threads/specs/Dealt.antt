@@ -3,11 +3,11 @@ use Rattle.std.specs.Prelude.{◌≡◌, ◌⊎◌, ◌-◌, ◌+◌, ℕ, Bool,
 use Rattle.oplog_tail.specs.Logs.{at_first, LogView}
 use Rattle.oplog_tail.specs.Seats.{SeatView}
 use Rattle.ruled_turn.specs.Passes.{outside_pass, PassView, TurnView}
-use Rattle.world_view_laws.specs.pm_model.Powers.{Supply}
-use Rattle.world_view_laws.specs.posix_types.declared.call.Who.{Who}
+use Rattle.thread_laws.specs.world_view_laws.pm_model.Powers.{Supply}
+use Rattle.thread_laws.specs.world_view_laws.posix_types.declared.call.Who.{Who}
 use Rattle.thread_laws.specs.Hands.{HandView, lap_of, newcomer}
-use Rattle.world_view_laws.specs.posix_spec.Scripted.{IsSetUp}
-use Rattle.world_view_laws.specs.Views.{WorldView}
+use Rattle.thread_laws.specs.world_view_laws.posix_spec.Scripted.{IsSetUp}
+use Rattle.thread_laws.specs.world_view_laws.Views.{WorldView}
 use Rattle.thread_laws.specs.States.{IsShownSetUp, StopsAll}
 use Rattle.thread_laws.specs.Works.{IsLater}
 use Rattle.split_threads.specs.Workers.{IsOpenedWith}
@@ -15,7 +15,7 @@ use Rattle.split_threads.specs.declared.dealing.Dealt.{Dealt}
 use Rattle.split_threads.specs.declared.set_up.Look.{Look}
 use Rattle.split_threads.specs.declared.turns.Held.{Held}
 use Rattle.split_threads.specs.declared.working.Own.{Own}
-use Rattle.world_view_laws.specs.declared.views.over.Over.{Over}
+use Rattle.thread_laws.specs.world_view_laws.declared.views.over.Over.{Over}
 
 -- a power that was made for so many steps, or for all, and gave none
 abbrev pub fresh_power : Option ℕ → Supply

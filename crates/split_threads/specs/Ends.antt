@@ -1,13 +1,13 @@
 -- What a run by threads promises.
 use Rattle.std.specs.Prelude.{◌≡◌, ◌≤◌, ◌+◌, ◌*◌, ◌^◌, ℕ, true, false, List, [], length, Option, Some, None}
-use Rattle.world_view_laws.specs.pm_model.declared.Cell.{Cell}
-use Rattle.world_view_laws.specs.pm_model.Cells.{AllHome}
-use Rattle.world_view_laws.specs.posix_types.declared.item.Item.{Item}
-use Rattle.world_view_laws.specs.posix_spec.Run.{IsLegal, Unfinished}
-use Rattle.world_view_laws.specs.posix_spec.Scripted.{IsComplete, Scripted}
-use Rattle.world_view_laws.specs.posix_spec.Unfinished.{AreUnfinished}
-use Rattle.world_view_laws.specs.world_image_laws.Promised.{KeepsPromise}
-use Rattle.world_view_laws.specs.Views.{WorldView}
+use Rattle.thread_laws.specs.world_view_laws.pm_model.declared.Cell.{Cell}
+use Rattle.thread_laws.specs.world_view_laws.pm_model.Cells.{AllHome}
+use Rattle.thread_laws.specs.world_view_laws.posix_types.declared.item.Item.{Item}
+use Rattle.thread_laws.specs.world_view_laws.posix_spec.Run.{IsLegal, Unfinished}
+use Rattle.thread_laws.specs.world_view_laws.posix_spec.Scripted.{IsComplete, Scripted}
+use Rattle.thread_laws.specs.world_view_laws.posix_spec.Unfinished.{AreUnfinished}
+use Rattle.thread_laws.specs.world_view_laws.world_image_laws.Promised.{KeepsPromise}
+use Rattle.thread_laws.specs.world_view_laws.Views.{WorldView}
 use Rattle.split_world.specs.world_parts.Answers.{HasTreeOf}
 use Rattle.split_world.specs.world_parts.declared.outcomes.Ended.{Ended}
 

@@ -1,8 +1,8 @@
 -- How a round is opened.
 use Rattle.std.specs.Prelude.{◌≡◌, ◌+◌, true, length}
-use Rattle.world_view_laws.specs.pm_model.Powers.{Supply}
-use Rattle.world_view_laws.specs.Lines.{AreFresh}
-use Rattle.world_view_laws.specs.Views.{WorldView}
+use Rattle.thread_laws.specs.world_view_laws.pm_model.Powers.{Supply}
+use Rattle.thread_laws.specs.world_view_laws.Lines.{AreFresh}
+use Rattle.thread_laws.specs.world_view_laws.Views.{WorldView}
 use Rattle.split_threads.specs.Dealt.{AreNewWorkers}
 use Rattle.split_threads.specs.declared.opening.Opened.{Opened}
 

@@ -3,9 +3,9 @@ use Rattle.std.specs.Prelude.{◌≡◌, ◌≤◌, ◌<◌, ◌+◌, ℕ, List,
 use Rattle.std.specs.List.{filter_map}
 use Rattle.oplog_tail.specs.Logs.{LogView}
 use Rattle.ruled_turn.specs.Passes.{TurnView}
-use Rattle.world_view_laws.specs.pm_model.Powers.{Supply}
-use Rattle.world_view_laws.specs.Lines.{AreFresh}
-use Rattle.world_view_laws.specs.Views.{WorldView}
+use Rattle.thread_laws.specs.world_view_laws.pm_model.Powers.{Supply}
+use Rattle.thread_laws.specs.world_view_laws.Lines.{AreFresh}
+use Rattle.thread_laws.specs.world_view_laws.Views.{WorldView}
 use Rattle.thread_laws.specs.Returned.{filled_left, job_left}
 use Rattle.split_threads.specs.Backs.{AreBack}
 use Rattle.split_threads.specs.declared.closes.Parted.{Parted}

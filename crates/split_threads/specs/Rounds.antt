@@ -1,13 +1,13 @@
 -- Between two rounds of a run by threads, and how a round turns out.
 use Rattle.std.specs.Prelude.{◌≡◌, ◌≤◌, ◌+◌, ◌*◌, ◌^◌, ℕ, true, false, List, [], length, Ok, Option, Some, None}
-use Rattle.world_view_laws.specs.pm_model.declared.Cell.{Cell}
-use Rattle.world_view_laws.specs.pm_model.Powers.{Steps, Supply}
-use Rattle.world_view_laws.specs.posix_types.declared.item.Item.{Item}
-use Rattle.world_view_laws.specs.posix_spec.Run.{Unfinished}
-use Rattle.world_view_laws.specs.posix_spec.Scripted.{IsComplete}
-use Rattle.world_view_laws.specs.Rounds.{IsLeft, IsNextRound}
-use Rattle.world_view_laws.specs.Views.{WorldView}
-use Rattle.world_view_laws.specs.k_journal.declared.outcomes.Commit.{Commit}
+use Rattle.thread_laws.specs.world_view_laws.pm_model.declared.Cell.{Cell}
+use Rattle.thread_laws.specs.world_view_laws.pm_model.Powers.{Steps, Supply}
+use Rattle.thread_laws.specs.world_view_laws.posix_types.declared.item.Item.{Item}
+use Rattle.thread_laws.specs.world_view_laws.posix_spec.Run.{Unfinished}
+use Rattle.thread_laws.specs.world_view_laws.posix_spec.Scripted.{IsComplete}
+use Rattle.thread_laws.specs.world_view_laws.Rounds.{IsLeft, IsNextRound}
+use Rattle.thread_laws.specs.world_view_laws.Views.{WorldView}
+use Rattle.thread_laws.specs.world_view_laws.k_journal.declared.outcomes.Commit.{Commit}
 use Rattle.split_world.specs.world_parts.Answers.{HasTreeOf, IsCheckpoint}
 use Rattle.split_world.specs.world_parts.declared.outcomes.Ended.{Ended}
 use Rattle.thread_laws.specs.Hands.{lap_of}

@@ -4,12 +4,12 @@ use Rattle.oplog_tail.specs.Logs.{IsSeatOf, LogView}
 use Rattle.oplog_tail.specs.Seats.{SeatView}
 use Rattle.oplog_tail.specs.oplog_entry.LogLines.{line_at}
 use Rattle.ruled_turn.specs.Passes.{outside_pass, TurnView}
-use Rattle.world_view_laws.specs.image_model.LogRule.{IsAsAtFirst}
-use Rattle.world_view_laws.specs.oplog_entry.layout_model.Places.{log_line}
-use Rattle.world_view_laws.specs.pm_model.Powers.{Steps, Supply}
-use Rattle.world_view_laws.specs.pm_model.Words.{Words}
-use Rattle.world_view_laws.specs.write_jobs.Jobs.{FilledView, JobView}
-use Rattle.world_view_laws.specs.Views.{first_by}
+use Rattle.thread_laws.specs.world_view_laws.image_model.LogRule.{IsAsAtFirst}
+use Rattle.thread_laws.specs.world_view_laws.oplog_entry.layout_model.Places.{log_line}
+use Rattle.thread_laws.specs.world_view_laws.pm_model.Powers.{Steps, Supply}
+use Rattle.thread_laws.specs.world_view_laws.pm_model.Words.{Words}
+use Rattle.thread_laws.specs.world_view_laws.write_jobs.Jobs.{FilledView, JobView}
+use Rattle.thread_laws.specs.world_view_laws.Views.{first_by}
 use Rattle.thread_laws.specs.Hands.{HandView, Lap}
 use Rattle.thread_laws.specs.States.{HasFilledJob, HasJob, IsIdle}
 use Rattle.thread_laws.specs.Works.{AreWritten, HasCome, HasWorked}

@@ -2,10 +2,10 @@
 ghost use Rattle.std.specs.Prelude.{◌≡◌, ◌≢◌, ◌≤◌, ℕ, List, [], true, false, length, IfOk, None};
 ghost use Rattle.oplog_tail.specs.Logs.{LogView};
 ghost use Rattle.posix_types.specs.declared.call.Who as whos;
-ghost use Rattle.world_view_laws.specs.Losses.{MayCrash};
-ghost use Rattle.world_view_laws.specs.Rounds.{IsLeft, MayCheckpoint};
-ghost use Rattle.world_view_laws.specs.Views.{next_of, WorldView};
-ghost use Rattle.world_view_laws.specs.pm_model.Powers.{Supply};
+ghost use Rattle.thread_laws.specs.world_view_laws.Losses.{MayCrash};
+ghost use Rattle.thread_laws.specs.world_view_laws.Rounds.{IsLeft, MayCheckpoint};
+ghost use Rattle.thread_laws.specs.world_view_laws.Views.{next_of, WorldView};
+ghost use Rattle.thread_laws.specs.world_view_laws.pm_model.Powers.{Supply};
 ghost use Rattle.thread_laws.specs.Returned.{filled_jobs_left, HaveStopped, HaveWorkers, IsClosed, jobs_left, Returned};
 ghost use Rattle.thread_laws.specs.Stands.{IsInRound};
 ghost use Rattle.split_threads.specs.Parted.{ArePartedFrom, CanEndRound, HasRoom, IsPartedMore, IsRoom};
@@ -19,8 +19,7 @@ use pm_lines::{Line, Power};
 use posix_types::Who;
 use split_world::{Crashed, Ended, Ready, World};
 use std::alloc::{AllocError, Global};
-use thread_laws::{Worked, a_round_ends_as_it_may};
-use world_view_laws::{Commit, FilledJob, Job, NoMemory};
+use thread_laws::{Commit, FilledJob, Job, NoMemory, Worked, a_round_ends_as_it_may};
 
 /// How a round turns out: the next one may begin, with the power that is left; or the run has ended.
 #[derive(Drop)]

@@ -1,8 +1,8 @@
 //! A round is opened: the log's lines go out into a log that threads share, and the World under a turn.
 ghost use Rattle.std.specs.Prelude.{◌≡◌, ◌≤◌, true, false, replicate, IfOk};
 ghost use Rattle.oplog_tail.specs.Logs.{at_first};
-ghost use Rattle.world_view_laws.specs.Rounds.{IsRoundBegun};
-ghost use Rattle.world_view_laws.specs.Views.{WorldView};
+ghost use Rattle.thread_laws.specs.world_view_laws.Rounds.{IsRoundBegun};
+ghost use Rattle.thread_laws.specs.world_view_laws.Views.{WorldView};
 ghost use Rattle.split_threads.specs.Opens.{IsOpenedRound};
 ghost use Rattle.split_threads.specs.Rounds.{IsBetweenRounds};
 
@@ -12,7 +12,7 @@ use oplog_tail::{LogSeat, OpLog};
 use pm_lines::Power;
 use split_world::World;
 use std::alloc::Global;
-use world_view_laws::NoMemory;
+use thread_laws::NoMemory;
 
 /// What a round is opened with.
 #[derive(Drop)]

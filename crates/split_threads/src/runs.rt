@@ -1,6 +1,6 @@
 //! A run by threads, round by round.
 ghost use Rattle.std.specs.Prelude.{IfOk};
-ghost use Rattle.world_view_laws.specs.Views.{WorldView};
+ghost use Rattle.thread_laws.specs.world_view_laws.Views.{WorldView};
 ghost use Rattle.split_threads.specs.Ends.{IsEndedByThreads, IsFirst};
 ghost use Rattle.split_threads.specs.Rounds.{IsBetweenRounds, IsRoundDone};
 
@@ -15,7 +15,7 @@ use split_world::{Ended, World};
 use std::alloc::Global;
 use std::sync::Wait;
 use std::thread::Threads;
-use world_view_laws::NoMemory;
+use thread_laws::NoMemory;
 
 // A round: it is opened, all workers do their parts and are joined, and it ends.
 fn round<R: Threads + Wait + Sync, G: Gate + Sync>(

@@ -1,8 +1,8 @@
 //! The workers of a round at work: the set-up's in this thread, and then those of the threads, all at once.
 ghost use Rattle.std.specs.Prelude.{◌≡◌, ◌+◌, ◌<◌, ◌≤◌, ℕ, [], length, slice_get, vec_capacity, vec_len, IfOk, Some};
 ghost use Rattle.thread_laws.specs.declared.works.Worked as ends;
-ghost use Rattle.world_view_laws.specs.pm_model.Powers.{Supply};
-ghost use Rattle.world_view_laws.specs.Views.{WorldView};
+ghost use Rattle.thread_laws.specs.world_view_laws.pm_model.Powers.{Supply};
+ghost use Rattle.thread_laws.specs.world_view_laws.Views.{WorldView};
 ghost use Rattle.split_threads.specs.Backs.{AreBack, AllMayStart, AreThreadsBack, HasCameBack, HaveComeInto, MayStart};
 ghost use Rattle.split_threads.specs.Dealt.{AreNewThreads, AreNewWorkers};
 ghost use denote.Param.Send.{IsSync};

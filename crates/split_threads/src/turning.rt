@@ -13,8 +13,7 @@ use posix_types::Who;
 use split_world::{Begun, Finished};
 use std::alloc::Global;
 use std::sync::Wait;
-use thread_laws::{Next, Worked, each_answer_may_be_left};
-use world_view_laws::FilledJob;
+use thread_laws::{FilledJob, Next, Worked, each_answer_may_be_left};
 
 // How a call that began goes on.
 fn next_of(begun: Begun) -> Next

@@ -14,8 +14,9 @@ use posix_types::Who;
 use std::alloc::Global;
 use std::sync::Wait;
 use std::thread::yield_now;
-use thread_laws::{Next, Worked, a_worker_goes_on, each_answer_may_be_left};
-use world_view_laws::{Filled, FilledJob, Job};
+use thread_laws::{
+    Filled, FilledJob, Job, Next, Worked, a_worker_goes_on, each_answer_may_be_left,
+};
 
 /// What all workers of a round share.
 #[derive(Drop)]

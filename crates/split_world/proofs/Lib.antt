@@ -1,2 +1,2 @@
 mod Opening
-pub use Rattle.round_laws.proofs.log_replay_proofs as log_replay_proofs
+pub use Rattle.world_rounds.proofs.round_laws_proofs.log_replay_proofs as log_replay_proofs

@@ -2,12 +2,12 @@
 use Rattle.std.specs.Prelude.{◌≡◌, ◌≢◌, ◌≤◌, true, false, [], length, None, vec_len}
 use Rattle.std.specs.Vec.{vec_capacity}
 use Rattle.std.proofs.Common.{arith, ap, sym, subst}
-use Rattle.round_laws.specs.posix_spec.Tree.{start}
-use Rattle.round_laws.specs.posix_tables.Open.{nothing_open, Tables}
+use Rattle.world_rounds.specs.round_laws.posix_spec.Tree.{start}
+use Rattle.world_rounds.specs.round_laws.posix_tables.Open.{nothing_open, Tables}
 use Rattle.world_begins.specs.world_parts.in_flight.Counters.{AreCounts}
 use Rattle.world_begins.specs.world_parts.in_flight.staging_files.Keeps.{Staged}
-use Rattle.round_laws.specs.StartsLaws.{BeginsOver, first_view, MayStart, ShowsAs, StartsGoing, WasMounted}
-use Rattle.round_laws.specs.Sizes.{HasSizesOf}
+use Rattle.world_rounds.specs.round_laws.StartsLaws.{BeginsOver, first_view, MayStart, ShowsAs, StartsGoing, WasMounted}
+use Rattle.world_rounds.specs.round_laws.Sizes.{HasSizesOf}
 use Rattle.world_begins.proofs.world_parts_proofs.world_view_laws_proofs.Ending.{no_both}
 use Rattle.world_begins.specs.world_parts.in_flight.staging_files.GivesUp.{nothing_staged}
 use Rattle.world_begins.specs.world_parts.world_view_laws.Starts.{AreInLimits}

@@ -1,13 +1,13 @@
 -- What `mount` answers.
 use Rattle.std.specs.Prelude.{◌≡◌, ◌*◌, true, List, length, Result, Ok, Err}
-use Rattle.round_laws.specs.pm_model.declared.Cell.{Cell}
-use Rattle.round_laws.specs.pm_model.Images.{words_of}
-use Rattle.round_laws.specs.pm_model.Powers.{is_on, Supply}
-use Rattle.round_laws.specs.image_model.Rules.{geometry_of, IsChecked}
+use Rattle.world_rounds.specs.round_laws.pm_model.declared.Cell.{Cell}
+use Rattle.world_rounds.specs.round_laws.pm_model.Images.{words_of}
+use Rattle.world_rounds.specs.round_laws.pm_model.Powers.{is_on, Supply}
+use Rattle.world_rounds.specs.round_laws.image_model.Rules.{geometry_of, IsChecked}
 use Rattle.posix_types.specs.declared.call.Mode.{Mode}
 use Rattle.posix_types.specs.Scripts.{Scripts}
-use Rattle.round_laws.specs.log_replay.declared.mounting.faults.MountFault.{MountFault}
-use Rattle.round_laws.specs.log_replay.Mounts.{IsMountAnswer}
+use Rattle.world_rounds.specs.round_laws.log_replay.declared.mounting.faults.MountFault.{MountFault}
+use Rattle.world_rounds.specs.round_laws.log_replay.Mounts.{IsMountAnswer}
 use Rattle.world_begins.specs.world_parts.world_view_laws.Starts.{BeginsMounted}
 use Rattle.world_begins.specs.world_parts.world_view_laws.Views.{WorldView}
 

@@ -1,11 +1,11 @@
 -- What a World that begins takes memory for.
 use Rattle.std.specs.Prelude.{◌≡◌, ◌≤◌, []}
 use Rattle.std.specs.Vec.{vec_capacity}
-use Rattle.round_laws.specs.k_split_model.View.{View}
-use Rattle.round_laws.specs.posix_tables.Open.{nothing_open}
+use Rattle.world_rounds.specs.round_laws.k_split_model.View.{View}
+use Rattle.world_rounds.specs.round_laws.posix_tables.Open.{nothing_open}
 use Rattle.posix_types.specs.declared.reply.Shape.{Shape}
-use Rattle.round_laws.specs.Sizes.{HasSizesOf}
-use Rattle.round_laws.specs.StartsLaws.{HasNumbersOf, ShowsAs}
+use Rattle.world_rounds.specs.round_laws.Sizes.{HasSizesOf}
+use Rattle.world_rounds.specs.round_laws.StartsLaws.{HasNumbersOf, ShowsAs}
 use Rattle.split_world.specs.declared.starting.Taken.{Taken}
 
 -- the tree that the device shows and the sizes of its files; nothing is open; and room for one call

@@ -1,8 +1,8 @@
 //! The calls of a World: whether one may begin, how it begins, and how its job ends.
 ghost use Rattle.std.specs.Prelude.{◌≡◌, ◌≤◌, ◌<◌, ◌^◌, true};
 ghost use Rattle.posix_types.specs.declared.call.Mode.{Mode};
-ghost use Rattle.round_laws.specs.pm_model.Powers.{Steps};
-ghost use Rattle.round_laws.specs.posix_spec.Scripted.{IsSetUp};
+ghost use Rattle.world_rounds.specs.round_laws.pm_model.Powers.{Steps};
+ghost use Rattle.world_rounds.specs.round_laws.posix_spec.Scripted.{IsSetUp};
 ghost use Rattle.world_begins.specs.world_parts.Answers.{IsBegun, IsFinished, IsReady};
 ghost use Rattle.world_begins.specs.world_parts.in_flight.Costs.{most_of};
 ghost use Rattle.world_begins.specs.world_parts.in_flight.live_model.Standing as standing;
@@ -13,10 +13,9 @@ ghost use Rattle.world_begins.specs.world_parts.world_view_laws.Views.{next_of, 
 use crate::world::World;
 use pm_lines::Power;
 use posix_types::Who;
-use round_laws::{FilledJob, Full};
 use std::alloc::Global;
 use world_begins::{Begun, Finished, NoMemory, Ready, begin_next, ready_of};
-use world_rounds::{finish_off, finish_on, give_up_off, give_up_on, lose_one};
+use world_rounds::{FilledJob, Full, finish_off, finish_on, give_up_off, give_up_on, lose_one};
 
 impl World {
     /// Whether a caller can begin its next call. It looks, in this order, at its job, its script, the round and the

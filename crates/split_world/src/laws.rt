@@ -1,4 +1,3 @@
 //! The laws that the bodies here rest on, so that a call of one is seen to be no deed.
 
-pub(crate) use round_laws::a_world_begins;
-pub(crate) use world_rounds::an_unmount_ends_a_run;
+pub(crate) use world_rounds::{a_world_begins, an_unmount_ends_a_run};

@@ -20,6 +20,6 @@ mod rounds;
 mod starting;
 mod world;
 
-pub use round_laws::{MountFault, a_remount_shows_the_same, mount};
 pub use world::World;
 pub use world_begins::{Begun, Crashed, Ended, Finished, Ready};
+pub use world_rounds::{MountFault, a_remount_shows_the_same, mount};

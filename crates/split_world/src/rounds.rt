@@ -1,6 +1,6 @@
 //! The rounds of a World: one begins, and ends at a checkpoint, with the run, or with the power.
 ghost use Rattle.std.specs.Prelude.{◌≡◌, ◌^◌, true, false, [], IfOk, OnErr};
-ghost use Rattle.round_laws.specs.pm_model.Powers.{Steps};
+ghost use Rattle.world_rounds.specs.round_laws.pm_model.Powers.{Steps};
 ghost use Rattle.world_begins.specs.world_parts.Answers.{IsCheckpoint, IsEnded};
 ghost use Rattle.world_begins.specs.world_parts.world_view_laws.Losses.{KeepsActed, MayCrash};
 ghost use Rattle.world_begins.specs.world_parts.world_view_laws.Rounds.{IsLeft, IsRoundBegun, MayCheckpoint, MayUnmount};
@@ -8,10 +8,11 @@ ghost use Rattle.world_begins.specs.world_parts.world_view_laws.Rounds.{IsLeft, 
 use crate::laws;
 use crate::world::World;
 use pm_lines::{Line, Power};
-use round_laws::{Commit, FilledJob, Job};
 use std::alloc::Global;
 use world_begins::{Crashed, Ended, NoMemory, lose};
-use world_rounds::{begin_lines, crash_lost, end_lines, end_run, keep_lines};
+use world_rounds::{
+    Commit, FilledJob, Job, begin_lines, crash_lost, end_lines, end_run, keep_lines,
+};
 
 impl World {
     /// Begins a round: the log's lines, by rising slot, at most 4,096, all words of them single, and the base of their

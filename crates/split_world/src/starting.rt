@@ -1,9 +1,9 @@
 //! How a World begins.
 ghost use Rattle.std.specs.Prelude.{◌≡◌, ◌≢◌, ◌%◌, ◌*◌, ◌<◌, ◌^◌, length, IfOk};
-ghost use Rattle.round_laws.specs.log_replay.Quiet.{IsSpent};
-ghost use Rattle.round_laws.specs.pm_model.Cells.{AllSingle};
+ghost use Rattle.world_rounds.specs.round_laws.log_replay.Quiet.{IsSpent};
+ghost use Rattle.world_rounds.specs.round_laws.pm_model.Cells.{AllSingle};
 ghost use Rattle.posix_types.specs.declared.call.Mode.{Mode};
-ghost use Rattle.round_laws.specs.StartsLaws.{BeginsOver, WasMounted};
+ghost use Rattle.world_rounds.specs.round_laws.StartsLaws.{BeginsOver, WasMounted};
 ghost use Rattle.world_begins.specs.world_parts.world_view_laws.Starts.{AreInLimits};
 ghost use Rattle.split_world.specs.Mounts.{IsWorldAnswer};
 ghost use Rattle.split_world.specs.Taken.{IsTaken};
@@ -13,10 +13,9 @@ use crate::laws;
 use crate::world::World;
 use pm_lines::{Pm, Power};
 use posix_types::{Call, Mode, Scripts, Tree, Who};
-use round_laws::{KSplit, MountFault, OpenFiles, Staging, mount, no_calls, table_of};
 use std::alloc::Global;
 use world_begins::{NoMemory, Parts};
-use world_rounds::FileTable;
+use world_rounds::{FileTable, KSplit, MountFault, OpenFiles, Staging, mount, no_calls, table_of};
 
 // What the World of a K-Split that was mounted takes memory for.
 #[derive(Drop)]

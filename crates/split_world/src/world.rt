@@ -1,14 +1,14 @@
 //! The World, and what it is asked.
 ghost use Rattle.std.specs.Prelude.{◌≡◌, ◌↔◌, ◌≤◌, ◌+◌, ◌*◌, true, IsTrue, length};
-ghost use Rattle.round_laws.specs.posix_spec.Run.{IsLegal};
-ghost use Rattle.round_laws.specs.posix_spec.Scripted.{IsSetUp, Scripted};
+ghost use Rattle.world_rounds.specs.round_laws.posix_spec.Run.{IsLegal};
+ghost use Rattle.world_rounds.specs.round_laws.posix_spec.Scripted.{IsSetUp, Scripted};
 ghost use Rattle.posix_types.specs.declared.call.Who as whos;
 
 use layout_model::Draft;
 use posix_types::{Item, Who};
-use round_laws::{calls_made, script_length};
 use std::marker::Model;
 use world_begins::Parts;
+use world_rounds::{calls_made, script_length};
 
 /// A file system with its scripts and the history of their calls since it was mounted. Contracts see a
 /// `WorldView`.

@@ -12,15 +12,15 @@ use Rattle.oplog_tail.specs.Views.{claim, claims_with, number_of}
 use Rattle.oplog_tail.specs.oplog_entry.declared.claims.Mark.TheVariants.{Lost, Written}
 use Rattle.oplog_tail.specs.oplog_entry.LogLines.{cells_of, line_at}
 use Rattle.oplog_tail.specs.layout_model.declared.lines.Draft.{Draft}
-use Rattle.world_view_laws.specs.pm_model.Cells.{newest}
-use Rattle.world_view_laws.specs.pm_model.declared.Cell.{Cell}
-use Rattle.world_view_laws.specs.pm_model.Parts.{Part}
-use Rattle.world_view_laws.specs.image_model.LogRule.{cells_of_line, HoldsEntry, IsAsAtFirst, words_of_line}
-use Rattle.world_view_laws.specs.list_laws.Members.{In}
-use Rattle.world_view_laws.specs.list_laws.Numbers.{member_of_with, once_of_below}
-use Rattle.world_view_laws.specs.write_end.Lines.{AreLinesOf, IsJobLine}
-use Rattle.world_view_laws.specs.Lines.{AreFresh, first_of}
-use Rattle.world_view_laws.specs.Views.{WorldView}
+use Rattle.round_laws.specs.world_view_laws.pm_model.Cells.{newest}
+use Rattle.round_laws.specs.world_view_laws.pm_model.declared.Cell.{Cell}
+use Rattle.round_laws.specs.world_view_laws.pm_model.Parts.{Part}
+use Rattle.round_laws.specs.world_view_laws.image_model.LogRule.{cells_of_line, HoldsEntry, IsAsAtFirst, words_of_line}
+use Rattle.round_laws.specs.world_view_laws.list_laws.Members.{In}
+use Rattle.round_laws.specs.world_view_laws.list_laws.Numbers.{member_of_with, once_of_below}
+use Rattle.round_laws.specs.world_view_laws.write_end.Lines.{AreLinesOf, IsJobLine}
+use Rattle.round_laws.specs.world_view_laws.Lines.{AreFresh, first_of}
+use Rattle.round_laws.specs.world_view_laws.Views.{WorldView}
 use Rattle.thread_laws.specs.Places.{Contains-In, In-behind, In-Contains, In-front}
 use Rattle.thread_laws.specs.Closed.{AreClaimsOf, ClosedCrash, ClosedHolds, FullIsClaimed, IsClosedOver}
 

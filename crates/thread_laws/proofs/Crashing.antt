@@ -9,19 +9,19 @@ use Rattle.oplog_tail.specs.Logs.{LogView}
 use Rattle.oplog_tail.specs.Views.{claim}
 use Rattle.oplog_tail.specs.oplog_entry.declared.claims.Mark.{Mark}
 use Rattle.oplog_tail.specs.oplog_entry.declared.claims.Mark.TheVariants.{Lost, Written}
-use Rattle.world_view_laws.specs.pm_model.Parts.{Part}
-use Rattle.world_view_laws.specs.pm_model.Powers.{Supply}
-use Rattle.world_view_laws.specs.oplog_entry.layout_model.declared.lines.Draft.{Draft}
-use Rattle.world_view_laws.specs.list_laws.Filters.{filter_map-In, In-map, map-In}
-use Rattle.world_view_laws.specs.list_laws.Members.{In, In-slice_get, slice_get-In}
-use Rattle.world_view_laws.specs.posix_types.declared.call.Who.{Who}
-use Rattle.world_view_laws.specs.live_model.Standing.{JobOut}
-use Rattle.world_view_laws.specs.write_end.Blocks.{AreBlocksHome}
-use Rattle.world_view_laws.specs.write_jobs.Jobs.{FilledView, JobView}
-use Rattle.world_view_laws.specs.Acts.{jobs_of}
-use Rattle.world_view_laws.specs.Begins.{IsFilledOut, IsJobOut}
-use Rattle.world_view_laws.specs.Losses.{AreAllOut, AreTwo, callers_of, MayCrash}
-use Rattle.world_view_laws.specs.Views.{WorldView}
+use Rattle.round_laws.specs.world_view_laws.pm_model.Parts.{Part}
+use Rattle.round_laws.specs.world_view_laws.pm_model.Powers.{Supply}
+use Rattle.round_laws.specs.world_view_laws.oplog_entry.layout_model.declared.lines.Draft.{Draft}
+use Rattle.round_laws.specs.world_view_laws.list_laws.Filters.{filter_map-In, In-map, map-In}
+use Rattle.round_laws.specs.world_view_laws.list_laws.Members.{In, In-slice_get, slice_get-In}
+use Rattle.round_laws.specs.world_view_laws.posix_types.declared.call.Who.{Who}
+use Rattle.round_laws.specs.world_view_laws.live_model.Standing.{JobOut}
+use Rattle.round_laws.specs.world_view_laws.write_end.Blocks.{AreBlocksHome}
+use Rattle.round_laws.specs.world_view_laws.write_jobs.Jobs.{FilledView, JobView}
+use Rattle.round_laws.specs.world_view_laws.Acts.{jobs_of}
+use Rattle.round_laws.specs.world_view_laws.Begins.{IsFilledOut, IsJobOut}
+use Rattle.round_laws.specs.world_view_laws.Losses.{AreAllOut, AreTwo, callers_of, MayCrash}
+use Rattle.round_laws.specs.world_view_laws.Views.{WorldView}
 use Rattle.thread_laws.specs.Closed.{AreClaimsOf}
 use Rattle.thread_laws.specs.EndsLaws.{ClosedMayCrash}
 use Rattle.thread_laws.specs.Hands.{HandView}

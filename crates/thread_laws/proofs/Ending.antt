@@ -10,22 +10,22 @@ use Rattle.oplog_tail.specs.Views.{claim, is_written}
 use Rattle.oplog_tail.specs.oplog_entry.declared.claims.Full.{Full}
 use Rattle.oplog_tail.specs.oplog_entry.declared.claims.Mark.{Mark}
 use Rattle.oplog_tail.specs.oplog_entry.declared.claims.Mark.TheVariants.{Lost, Written}
-use Rattle.world_view_laws.specs.pm_model.Parts.{Part}
-use Rattle.world_view_laws.specs.pm_model.Powers.{is_on, Steps, Supply}
-use Rattle.world_view_laws.specs.oplog_entry.layout_model.declared.lines.Draft.{Draft}
-use Rattle.world_view_laws.specs.in_flight.Counts.{history_complete, history_within}
-use Rattle.world_view_laws.specs.list_laws.Filters.{filter-In, In-filter, In-map, map-In}
-use Rattle.world_view_laws.specs.list_laws.Members.{In}
-use Rattle.world_view_laws.specs.posix_types.declared.call.Call.{Call}
-use Rattle.world_view_laws.specs.posix_types.declared.call.Who.{Who}
-use Rattle.world_view_laws.specs.posix_spec.Scripted.{Scripted}
-use Rattle.world_view_laws.specs.live_model.Standing.{JobOut}
-use Rattle.world_view_laws.specs.write_jobs.Jobs.{FilledView, JobView}
-use Rattle.world_view_laws.specs.declared.views.over.Over.{Over}
-use Rattle.world_view_laws.specs.Acts.{jobs_of, Last, shows}
-use Rattle.world_view_laws.specs.Lines.{HoldTheClaims}
-use Rattle.world_view_laws.specs.Rounds.{MayCheckpoint, MayUnmount}
-use Rattle.world_view_laws.specs.Views.{next_of, WorldView}
+use Rattle.round_laws.specs.world_view_laws.pm_model.Parts.{Part}
+use Rattle.round_laws.specs.world_view_laws.pm_model.Powers.{is_on, Steps, Supply}
+use Rattle.round_laws.specs.world_view_laws.oplog_entry.layout_model.declared.lines.Draft.{Draft}
+use Rattle.round_laws.specs.world_view_laws.in_flight.Counts.{history_complete, history_within}
+use Rattle.round_laws.specs.world_view_laws.list_laws.Filters.{filter-In, In-filter, In-map, map-In}
+use Rattle.round_laws.specs.world_view_laws.list_laws.Members.{In}
+use Rattle.round_laws.specs.world_view_laws.posix_types.declared.call.Call.{Call}
+use Rattle.round_laws.specs.world_view_laws.posix_types.declared.call.Who.{Who}
+use Rattle.round_laws.specs.world_view_laws.posix_spec.Scripted.{Scripted}
+use Rattle.round_laws.specs.world_view_laws.live_model.Standing.{JobOut}
+use Rattle.round_laws.specs.world_view_laws.write_jobs.Jobs.{FilledView, JobView}
+use Rattle.round_laws.specs.world_view_laws.declared.views.over.Over.{Over}
+use Rattle.round_laws.specs.world_view_laws.Acts.{jobs_of, Last, shows}
+use Rattle.round_laws.specs.world_view_laws.Lines.{HoldTheClaims}
+use Rattle.round_laws.specs.world_view_laws.Rounds.{MayCheckpoint, MayUnmount}
+use Rattle.round_laws.specs.world_view_laws.Views.{next_of, WorldView}
 use Rattle.thread_laws.specs.Closed.{AreClaimsOf, IsClosedOver}
 use Rattle.thread_laws.specs.EndsLaws.{ClosedIsQuiet, ClosedMayCheckpoint, ClosedMayUnmount, StillIsReturned, WorkedIsReturned}
 use Rattle.thread_laws.specs.Hands.{Gone, HandView, Nothing, Sees, Shown}

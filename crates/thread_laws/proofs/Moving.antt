@@ -2,27 +2,27 @@
 use Rattle.std.specs.Prelude.{◌≡◌, ◌≢◌, ◌⊎◌, ◌<◌, ◌≤◌, ◌+◌, ◌-◌, ◌*◌, ◌^◌, ◌||◌, ◌==◌, ℕ, zero, suc, Bool, true, false, cond, nat_lt, List, [], ◌∷◌, ◌++◌, drop, filter, is_none, length, map, Option, Some, None, Ok, refl, if◌then◌else◌}
 use Rattle.std.proofs.Common.{arith, ap, ◌∙◌, sym, subst, inl, inr, append-nil, length-append}
 use Rattle.std.proofs.lemmas.Bool.Decides.{Decides-eqb, nat_tests}
-use Rattle.world_view_laws.specs.pm_model.Powers.{is_on, Steps, Supply}
-use Rattle.world_view_laws.specs.oplog_entry.declared.claims.Full.{Full}
-use Rattle.world_view_laws.specs.oplog_entry.layout_model.declared.lines.Draft.{Draft}
-use Rattle.world_view_laws.specs.in_flight.Costs.{most_of, most_of_call}
-use Rattle.world_view_laws.specs.list_laws.Filters.{filter-more}
-use Rattle.world_view_laws.specs.list_laws.Members.{In}
-use Rattle.world_view_laws.specs.posix_types.declared.call.Call.{Call}
-use Rattle.world_view_laws.specs.posix_types.declared.call.Who.{Who}
-use Rattle.world_view_laws.specs.posix_types.declared.item.Item.{Item}
-use Rattle.world_view_laws.specs.posix_tables.Open.{same_who}
-use Rattle.world_view_laws.specs.posix_spec.Afforded.{moves_data}
-use Rattle.world_view_laws.specs.posix_spec.Scripted.{IsSetUp, items_of}
-use Rattle.world_view_laws.specs.live_model.Jobs.{SpellCall, without}
-use Rattle.world_view_laws.specs.live_model.Standing.{JobOut}
-use Rattle.world_view_laws.specs.write_jobs.Jobs.{FilledView, JobView}
-use Rattle.world_view_laws.specs.declared.views.over.Over.{Over}
-use Rattle.world_view_laws.specs.Acts.{AddsOne, IsAct, jobs_of, shows}
-use Rattle.world_view_laws.specs.Begins.{BeginsJob, EndsRound, IsFilledOut, IsJobOut, IsPowerLost, IsRoundOver, item_of, LosesCall, Returns}
-use Rattle.world_view_laws.specs.Jobs.{Finishes, GivesUp, LosesFinish, over_by}
-use Rattle.world_view_laws.specs.Views.{HasNone, next_of, state_of, WorldView}
-use Rattle.world_view_laws.proofs.Ending.{left_of}
+use Rattle.round_laws.specs.world_view_laws.pm_model.Powers.{is_on, Steps, Supply}
+use Rattle.round_laws.specs.world_view_laws.oplog_entry.declared.claims.Full.{Full}
+use Rattle.round_laws.specs.world_view_laws.oplog_entry.layout_model.declared.lines.Draft.{Draft}
+use Rattle.round_laws.specs.world_view_laws.in_flight.Costs.{most_of, most_of_call}
+use Rattle.round_laws.specs.world_view_laws.list_laws.Filters.{filter-more}
+use Rattle.round_laws.specs.world_view_laws.list_laws.Members.{In}
+use Rattle.round_laws.specs.world_view_laws.posix_types.declared.call.Call.{Call}
+use Rattle.round_laws.specs.world_view_laws.posix_types.declared.call.Who.{Who}
+use Rattle.round_laws.specs.world_view_laws.posix_types.declared.item.Item.{Item}
+use Rattle.round_laws.specs.world_view_laws.posix_tables.Open.{same_who}
+use Rattle.round_laws.specs.world_view_laws.posix_spec.Afforded.{moves_data}
+use Rattle.round_laws.specs.world_view_laws.posix_spec.Scripted.{IsSetUp, items_of}
+use Rattle.round_laws.specs.world_view_laws.live_model.Jobs.{SpellCall, without}
+use Rattle.round_laws.specs.world_view_laws.live_model.Standing.{JobOut}
+use Rattle.round_laws.specs.world_view_laws.write_jobs.Jobs.{FilledView, JobView}
+use Rattle.round_laws.specs.world_view_laws.declared.views.over.Over.{Over}
+use Rattle.round_laws.specs.world_view_laws.Acts.{AddsOne, IsAct, jobs_of, shows}
+use Rattle.round_laws.specs.world_view_laws.Begins.{BeginsJob, EndsRound, IsFilledOut, IsJobOut, IsPowerLost, IsRoundOver, item_of, LosesCall, Returns}
+use Rattle.round_laws.specs.world_view_laws.Jobs.{Finishes, GivesUp, LosesFinish, over_by}
+use Rattle.round_laws.specs.world_view_laws.Views.{HasNone, next_of, state_of, WorldView}
+use Rattle.round_laws.proofs.world_view_laws_proofs.Ending.{left_of}
 use Rattle.world_parts.specs.declared.outcomes.Begun.{Begun}
 use Rattle.world_parts.specs.declared.outcomes.Finished.{Finished}
 use Rattle.world_parts.specs.Answers.{IsBegun, IsFinished}

@@ -12,11 +12,11 @@ use Rattle.oplog_tail.specs.declared.views.Claim.{Claim}
 use Rattle.oplog_tail.specs.oplog_entry.declared.claims.Full.{Full}
 use Rattle.oplog_tail.specs.oplog_entry.declared.claims.Mark.{Mark}
 use Rattle.oplog_tail.specs.oplog_entry.declared.claims.Mark.TheVariants.{Lost, Written}
-use Rattle.world_view_laws.specs.pm_model.Powers.{is_on, Steps, Supply}
-use Rattle.world_view_laws.specs.oplog_entry.layout_model.declared.lines.Draft.{Draft}
-use Rattle.world_view_laws.specs.list_laws.Members.{In}
-use Rattle.world_view_laws.specs.posix_types.declared.item.Item.{Item}
-use Rattle.world_view_laws.specs.write_jobs.Jobs.{FilledView, JobView}
+use Rattle.round_laws.specs.world_view_laws.pm_model.Powers.{is_on, Steps, Supply}
+use Rattle.round_laws.specs.world_view_laws.oplog_entry.layout_model.declared.lines.Draft.{Draft}
+use Rattle.round_laws.specs.world_view_laws.list_laws.Members.{In}
+use Rattle.round_laws.specs.world_view_laws.posix_types.declared.item.Item.{Item}
+use Rattle.round_laws.specs.world_view_laws.write_jobs.Jobs.{FilledView, JobView}
 use Rattle.thread_laws.specs.Hands.{Gone, HandView, Nothing, Sees, Shown}
 use Rattle.thread_laws.specs.Places.{append-In, Contains-In, drop_front, drop_whole, In-Contains, In-front}
 use Rattle.thread_laws.specs.States.{HasFilledJob, HasJob, HasStopped, IsShownLost, IsShownSetUp, StopsAll}

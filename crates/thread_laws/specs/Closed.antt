@@ -7,12 +7,12 @@ use Rattle.oplog_tail.specs.Seats.{SeatView}
 use Rattle.oplog_tail.specs.Views.{claim}
 use Rattle.oplog_tail.specs.oplog_entry.declared.claims.Full.{Full}
 use Rattle.oplog_tail.specs.oplog_entry.declared.claims.Mark.TheVariants.{Lost, Written}
-use Rattle.world_view_laws.specs.pm_model.Parts.{Part}
+use Rattle.round_laws.specs.world_view_laws.pm_model.Parts.{Part}
 use Rattle.oplog_tail.specs.layout_model.declared.lines.Draft.{Draft}
-use Rattle.world_view_laws.specs.list_laws.Members.{In}
-use Rattle.world_view_laws.specs.write_jobs.Jobs.{FilledView}
-use Rattle.world_view_laws.specs.Lines.{AreCrashLines, AreFresh, HoldTheClaims}
-use Rattle.world_view_laws.specs.Views.{WorldView}
+use Rattle.round_laws.specs.world_view_laws.list_laws.Members.{In}
+use Rattle.round_laws.specs.world_view_laws.write_jobs.Jobs.{FilledView}
+use Rattle.round_laws.specs.world_view_laws.Lines.{AreCrashLines, AreFresh, HoldTheClaims}
+use Rattle.round_laws.specs.world_view_laws.Views.{WorldView}
 
 -- THE CLAIMS OF A LOG ARE those pairs of slot and entry that were given to `finish`, each written; and those that were taken by jobs whose append lost the
 -- power.

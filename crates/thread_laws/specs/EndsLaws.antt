@@ -2,14 +2,14 @@
 use Rattle.std.specs.Prelude.{◌≡◌, ◌≢◌, ◌⊎◌, ◌≤◌, ◌+◌, ◌*◌, ◌^◌, ℕ, true, false, List, [], length, Option, Some, None}
 use Rattle.oplog_tail.specs.Logs.{LogView}
 use Rattle.oplog_tail.specs.Seats.{SeatView}
-use Rattle.world_view_laws.specs.pm_model.Parts.{Part}
-use Rattle.world_view_laws.specs.pm_model.Powers.{is_on, Steps, Supply}
-use Rattle.world_view_laws.specs.posix_types.declared.call.Who.{Who}
-use Rattle.world_view_laws.specs.posix_spec.Scripted.{IsComplete, Scripted}
-use Rattle.world_view_laws.specs.Lines.{HoldTheClaims}
-use Rattle.world_view_laws.specs.Losses.{MayCrash}
-use Rattle.world_view_laws.specs.Rounds.{LosesRound, MayCheckpoint, MayUnmount}
-use Rattle.world_view_laws.specs.Views.{next_of, WorldView}
+use Rattle.round_laws.specs.world_view_laws.pm_model.Parts.{Part}
+use Rattle.round_laws.specs.world_view_laws.pm_model.Powers.{is_on, Steps, Supply}
+use Rattle.round_laws.specs.world_view_laws.posix_types.declared.call.Who.{Who}
+use Rattle.round_laws.specs.world_view_laws.posix_spec.Scripted.{IsComplete, Scripted}
+use Rattle.round_laws.specs.world_view_laws.Lines.{HoldTheClaims}
+use Rattle.round_laws.specs.world_view_laws.Losses.{MayCrash}
+use Rattle.round_laws.specs.world_view_laws.Rounds.{LosesRound, MayCheckpoint, MayUnmount}
+use Rattle.round_laws.specs.world_view_laws.Views.{next_of, WorldView}
 use Rattle.thread_laws.specs.Stands.{IsBounded, IsInRound}
 use Rattle.thread_laws.specs.MovesLaws.{AreFewActs}
 use Rattle.thread_laws.specs.Hands.{HandView}

@@ -1,16 +1,16 @@
 -- What a worker knows of the World while it does not have it: its view.
 use Rattle.std.specs.Prelude.{◌≡◌, ◌-◌, ℕ, Bool, true, false, List, [], ◌∷◌, ◌++◌, drop, map, Option, Some, None}
 use Rattle.std.specs.List.{range_with_len}
-use Rattle.world_view_laws.specs.pm_model.Powers.{Supply}
-use Rattle.world_view_laws.specs.oplog_entry.layout_model.declared.lines.Draft.{Draft}
-use Rattle.world_view_laws.specs.oplog_entry.layout_model.Places.{Geometry}
-use Rattle.world_view_laws.specs.posix_types.declared.call.Who.{Who}
-use Rattle.world_view_laws.specs.posix_types.declared.item.Item.{Item}
-use Rattle.world_view_laws.specs.posix_types.Scripts.{Scripts}
-use Rattle.world_view_laws.specs.posix_spec.Scripted.{items_of}
-use Rattle.world_view_laws.specs.posix_spec.State.{State}
-use Rattle.world_view_laws.specs.Acts.{Last}
-use Rattle.world_view_laws.specs.Views.{WorldView}
+use Rattle.round_laws.specs.world_view_laws.pm_model.Powers.{Supply}
+use Rattle.round_laws.specs.world_view_laws.oplog_entry.layout_model.declared.lines.Draft.{Draft}
+use Rattle.round_laws.specs.world_view_laws.oplog_entry.layout_model.Places.{Geometry}
+use Rattle.round_laws.specs.world_view_laws.posix_types.declared.call.Who.{Who}
+use Rattle.round_laws.specs.world_view_laws.posix_types.declared.item.Item.{Item}
+use Rattle.round_laws.specs.world_view_laws.posix_types.Scripts.{Scripts}
+use Rattle.round_laws.specs.world_view_laws.posix_spec.Scripted.{items_of}
+use Rattle.round_laws.specs.world_view_laws.posix_spec.State.{State}
+use Rattle.round_laws.specs.world_view_laws.Acts.{Last}
+use Rattle.round_laws.specs.world_view_laws.Views.{WorldView}
 
 -- THE LAP: what stays of a World in its round. The numbers of the volume, the state at the start and the scripts; the log's base, and the words
 -- of its lines, as the round's log is opened with them.

@@ -3,22 +3,22 @@ use Rattle.std.specs.Prelude.{◌≡◌, ◌≢◌, ◌⊎◌, ◌≤◌, ◌+�
 use Rattle.std.proofs.Common.{arith, ap, ◌∙◌, sym, subst, inl, inr, length-append}
 use Rattle.std.proofs.lemmas.Bool.{cases_Bool}
 use Rattle.std.proofs.lemmas.Bool.Decides.{Decides-eqb}
-use Rattle.world_view_laws.specs.pm_model.Powers.{Supply}
-use Rattle.world_view_laws.specs.oplog_entry.layout_model.declared.lines.Draft.{Draft}
-use Rattle.world_view_laws.specs.in_flight.Histories.{next_stays}
-use Rattle.world_view_laws.specs.list_laws.Filters.{filter-same}
-use Rattle.world_view_laws.specs.list_laws.Members.{In}
-use Rattle.world_view_laws.specs.posix_types.declared.call.Call.{Call}
-use Rattle.world_view_laws.specs.posix_types.declared.call.Who.{Who}
-use Rattle.world_view_laws.specs.posix_types.declared.item.Item.{Item}
-use Rattle.world_view_laws.specs.posix_types.Scripts.{Scripts}
-use Rattle.world_view_laws.specs.posix_tables.Open.{same_who}
-use Rattle.world_view_laws.specs.posix_spec.Scripted.{items_of, next_call}
-use Rattle.world_view_laws.specs.live_model.Standing.{JobOut}
-use Rattle.world_view_laws.specs.declared.views.over.Over.{Over}
-use Rattle.world_view_laws.specs.Acts.{AddsOne, ClaimsOne, IsAct, jobs_of, Last, shows}
-use Rattle.world_view_laws.specs.Begins.{item_of}
-use Rattle.world_view_laws.specs.Views.{next_of, WorldView}
+use Rattle.round_laws.specs.world_view_laws.pm_model.Powers.{Supply}
+use Rattle.round_laws.specs.world_view_laws.oplog_entry.layout_model.declared.lines.Draft.{Draft}
+use Rattle.round_laws.specs.world_view_laws.in_flight.Histories.{next_stays}
+use Rattle.round_laws.specs.world_view_laws.list_laws.Filters.{filter-same}
+use Rattle.round_laws.specs.world_view_laws.list_laws.Members.{In}
+use Rattle.round_laws.specs.world_view_laws.posix_types.declared.call.Call.{Call}
+use Rattle.round_laws.specs.world_view_laws.posix_types.declared.call.Who.{Who}
+use Rattle.round_laws.specs.world_view_laws.posix_types.declared.item.Item.{Item}
+use Rattle.round_laws.specs.world_view_laws.posix_types.Scripts.{Scripts}
+use Rattle.round_laws.specs.world_view_laws.posix_tables.Open.{same_who}
+use Rattle.round_laws.specs.world_view_laws.posix_spec.Scripted.{items_of, next_call}
+use Rattle.round_laws.specs.world_view_laws.live_model.Standing.{JobOut}
+use Rattle.round_laws.specs.world_view_laws.declared.views.over.Over.{Over}
+use Rattle.round_laws.specs.world_view_laws.Acts.{AddsOne, ClaimsOne, IsAct, jobs_of, Last, shows}
+use Rattle.round_laws.specs.world_view_laws.Begins.{item_of}
+use Rattle.round_laws.specs.world_view_laws.Views.{next_of, WorldView}
 use Rattle.thread_laws.specs.Hands.{Gone, HandView, lap_of, mine_of, Nothing, Sees, Shown}
 use Rattle.thread_laws.specs.Jobs.{holder_job, none_of, other_job, same_is}
 use Rattle.thread_laws.specs.Moves.{first_draft, MayLeave, next_hand}

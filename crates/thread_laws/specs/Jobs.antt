@@ -2,17 +2,17 @@
 use Rattle.std.specs.Prelude.{◌≡◌, ◌≢◌, ◌⊎◌, ◌<◌, ◌+◌, not, ℕ, zero, suc, Bool, true, false, cond, nat_lt, List, [], ◌∷◌, ◌++◌, filter, length, map, Option, Some, None, refl}
 use Rattle.std.proofs.Common.{arith, ap, ◌∙◌, sym, subst, inl, inr, length-append}
 use Rattle.std.proofs.lemmas.Bool.Decides.{Decides-eqb, nat_tests}
-use Rattle.world_view_laws.specs.pm_model.Powers.{Supply}
-use Rattle.world_view_laws.specs.oplog_entry.layout_model.declared.lines.Draft.{Draft}
-use Rattle.world_view_laws.specs.list_laws.Filters.{filter-In, In-filter}
-use Rattle.world_view_laws.specs.list_laws.Members.{In}
-use Rattle.world_view_laws.specs.posix_types.declared.call.Who.{Who}
-use Rattle.world_view_laws.specs.posix_tables.Open.{same_who}
-use Rattle.world_view_laws.specs.live_model.Standing.{JobOut}
-use Rattle.world_view_laws.specs.live_model.Jobs.{without}
-use Rattle.world_view_laws.specs.write_end.Blocks.{AreBlocksHome}
-use Rattle.world_view_laws.specs.Views.{HasNone, WorldView}
-use Rattle.world_view_laws.specs.Acts.{EndsOwn, IsAct, jobs_of, StaysOf}
+use Rattle.round_laws.specs.world_view_laws.pm_model.Powers.{Supply}
+use Rattle.round_laws.specs.world_view_laws.oplog_entry.layout_model.declared.lines.Draft.{Draft}
+use Rattle.round_laws.specs.world_view_laws.list_laws.Filters.{filter-In, In-filter}
+use Rattle.round_laws.specs.world_view_laws.list_laws.Members.{In}
+use Rattle.round_laws.specs.world_view_laws.posix_types.declared.call.Who.{Who}
+use Rattle.round_laws.specs.world_view_laws.posix_tables.Open.{same_who}
+use Rattle.round_laws.specs.world_view_laws.live_model.Standing.{JobOut}
+use Rattle.round_laws.specs.world_view_laws.live_model.Jobs.{without}
+use Rattle.round_laws.specs.world_view_laws.write_end.Blocks.{AreBlocksHome}
+use Rattle.round_laws.specs.world_view_laws.Views.{HasNone, WorldView}
+use Rattle.round_laws.specs.world_view_laws.Acts.{EndsOwn, IsAct, jobs_of, StaysOf}
 use Rattle.thread_laws.specs.Moves.{begun_after}
 use Rattle.thread_laws.specs.Stands.{IsJobOf, listed}
 

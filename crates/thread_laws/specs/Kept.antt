@@ -7,19 +7,19 @@ use Rattle.std.proofs.lemmas.Bool.Decides.{nat_tests}
 use Rattle.std.proofs.lemmas.List.{length-map}
 use Rattle.std.proofs.lemmas.List.FromFn.{length-range_with_len}
 use Rattle.std.proofs.lemmas.List.Sums.{sum_by-append, sum_by-cons}
-use Rattle.world_view_laws.specs.pm_model.Powers.{Supply}
-use Rattle.world_view_laws.specs.oplog_entry.layout_model.declared.lines.Draft.{Draft}
-use Rattle.world_view_laws.specs.list_laws.Filters.{filter-In, In-filter}
-use Rattle.world_view_laws.specs.list_laws.Members.{In, slice_get-push}
-use Rattle.world_view_laws.specs.list_laws.Sums.{sum_at_place}
-use Rattle.world_view_laws.specs.posix_types.declared.call.Who.{Who}
-use Rattle.world_view_laws.specs.posix_types.declared.item.Item.{Item}
-use Rattle.world_view_laws.specs.posix_tables.Open.{same_who}
-use Rattle.world_view_laws.specs.posix_spec.Scripted.{items_of}
-use Rattle.world_view_laws.specs.live_model.Jobs.{without}
-use Rattle.world_view_laws.specs.live_model.Standing.{JobOut}
-use Rattle.world_view_laws.specs.Acts.{IsAct, jobs_of}
-use Rattle.world_view_laws.specs.Views.{WorldView}
+use Rattle.round_laws.specs.world_view_laws.pm_model.Powers.{Supply}
+use Rattle.round_laws.specs.world_view_laws.oplog_entry.layout_model.declared.lines.Draft.{Draft}
+use Rattle.round_laws.specs.world_view_laws.list_laws.Filters.{filter-In, In-filter}
+use Rattle.round_laws.specs.world_view_laws.list_laws.Members.{In, slice_get-push}
+use Rattle.round_laws.specs.world_view_laws.list_laws.Sums.{sum_at_place}
+use Rattle.round_laws.specs.world_view_laws.posix_types.declared.call.Who.{Who}
+use Rattle.round_laws.specs.world_view_laws.posix_types.declared.item.Item.{Item}
+use Rattle.round_laws.specs.world_view_laws.posix_tables.Open.{same_who}
+use Rattle.round_laws.specs.world_view_laws.posix_spec.Scripted.{items_of}
+use Rattle.round_laws.specs.world_view_laws.live_model.Jobs.{without}
+use Rattle.round_laws.specs.world_view_laws.live_model.Standing.{JobOut}
+use Rattle.round_laws.specs.world_view_laws.Acts.{IsAct, jobs_of}
+use Rattle.round_laws.specs.world_view_laws.Views.{WorldView}
 use Rattle.thread_laws.specs.Hands.{callers_for, first_hands, HandView, newcomer}
 use Rattle.thread_laws.specs.Holders.{claims_grow, first_listed, listed_job, round_stays, view_of_holder, view_of_other}
 use Rattle.thread_laws.specs.Jobs.{jobs_In, none_of, same_is, same_self}

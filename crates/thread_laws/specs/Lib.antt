@@ -14,4 +14,4 @@ pub mod Jobs
 pub mod Holders
 pub mod Kept
 pub use Rattle.oplog_tail.specs as oplog_tail
-pub use Rattle.world_view_laws.specs as world_view_laws
+pub use Rattle.round_laws.specs.world_view_laws as world_view_laws

@@ -1,10 +1,10 @@
 -- How a turn is opened over a World, what its holder may do, and what it knows afterwards.
 use Rattle.std.specs.Prelude.{◌≡◌, ◌≤◌, ◌*◌, ◌^◌, ◌||◌, ℕ, Bool, true, false, nat_lt, List, [], ◌∷◌, ◌++◌, drop, length, Option, Some, None, refl}
-use Rattle.world_view_laws.specs.pm_model.Powers.{Supply}
-use Rattle.world_view_laws.specs.oplog_entry.layout_model.declared.lines.Draft.{Draft}
-use Rattle.world_view_laws.specs.live_model.Standing.{JobOut}
-use Rattle.world_view_laws.specs.Acts.{IsAct, jobs_of, shows}
-use Rattle.world_view_laws.specs.Views.{WorldView}
+use Rattle.round_laws.specs.world_view_laws.pm_model.Powers.{Supply}
+use Rattle.round_laws.specs.world_view_laws.oplog_entry.layout_model.declared.lines.Draft.{Draft}
+use Rattle.round_laws.specs.world_view_laws.live_model.Standing.{JobOut}
+use Rattle.round_laws.specs.world_view_laws.Acts.{IsAct, jobs_of, shows}
+use Rattle.round_laws.specs.world_view_laws.Views.{WorldView}
 use Rattle.thread_laws.specs.Hands.{HandView, mine_of, Sees}
 use Rattle.thread_laws.specs.Stands.{IsBounded, IsInRound, IsViewOf}
 

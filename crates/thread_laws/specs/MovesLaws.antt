@@ -1,16 +1,16 @@
 -- Each answer of the World is a move that the turn allows its holder, and what the holder's view is behind it.
 use Rattle.std.specs.Prelude.{◌≡◌, ◌≢◌, ◌≤◌, ◌+◌, ◌*◌, ◌^◌, ℕ, Bool, true, false, length, None, Some, Ok}
 use Rattle.oplog_tail.specs.oplog_entry.declared.claims.Full.{Full}
-use Rattle.world_view_laws.specs.pm_model.Powers.{Steps, Supply}
-use Rattle.world_view_laws.specs.oplog_entry.layout_model.declared.lines.Draft.{Draft}
-use Rattle.world_view_laws.specs.live_model.Standing.{JobOut}
-use Rattle.world_view_laws.specs.in_flight.Costs.{most_of}
-use Rattle.world_view_laws.specs.write_jobs.Jobs.{FilledView, IsCutOff, IsFilled, JobView}
-use Rattle.world_view_laws.specs.posix_types.declared.call.Who.{Who}
-use Rattle.world_view_laws.specs.posix_spec.Scripted.{IsSetUp}
-use Rattle.world_view_laws.specs.Begins.{IsFilledOut, IsJobOut}
-use Rattle.world_view_laws.specs.Jobs.{GivesUp, IsOfWorld}
-use Rattle.world_view_laws.specs.Views.{HasNone, next_of, WorldView}
+use Rattle.round_laws.specs.world_view_laws.pm_model.Powers.{Steps, Supply}
+use Rattle.round_laws.specs.world_view_laws.oplog_entry.layout_model.declared.lines.Draft.{Draft}
+use Rattle.round_laws.specs.world_view_laws.live_model.Standing.{JobOut}
+use Rattle.round_laws.specs.world_view_laws.in_flight.Costs.{most_of}
+use Rattle.round_laws.specs.world_view_laws.write_jobs.Jobs.{FilledView, IsCutOff, IsFilled, JobView}
+use Rattle.round_laws.specs.world_view_laws.posix_types.declared.call.Who.{Who}
+use Rattle.round_laws.specs.world_view_laws.posix_spec.Scripted.{IsSetUp}
+use Rattle.round_laws.specs.world_view_laws.Begins.{IsFilledOut, IsJobOut}
+use Rattle.round_laws.specs.world_view_laws.Jobs.{GivesUp, IsOfWorld}
+use Rattle.round_laws.specs.world_view_laws.Views.{HasNone, next_of, WorldView}
 use Rattle.world_parts.specs.Answers.{IsBegun, IsFinished}
 use Rattle.world_parts.specs.declared.outcomes.Begun.{Begun}
 use Rattle.world_parts.specs.declared.outcomes.Finished.{Finished}

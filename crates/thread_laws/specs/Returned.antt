@@ -7,12 +7,12 @@ use Rattle.oplog_tail.specs.Closing.{AreFirst, claims_of_all}
 use Rattle.oplog_tail.specs.Logs.{LogView}
 use Rattle.oplog_tail.specs.Seats.{SeatView}
 use Rattle.oplog_tail.specs.oplog_entry.declared.claims.Full.{Full}
-use Rattle.world_view_laws.specs.pm_model.Parts.{Part}
-use Rattle.world_view_laws.specs.pm_model.Powers.{Supply}
-use Rattle.world_view_laws.specs.list_laws.Members.{In}
-use Rattle.world_view_laws.specs.posix_types.declared.call.Who.{Who}
-use Rattle.world_view_laws.specs.write_jobs.Jobs.{FilledView, JobView}
-use Rattle.world_view_laws.specs.Views.{next_of, WorldView}
+use Rattle.round_laws.specs.world_view_laws.pm_model.Parts.{Part}
+use Rattle.round_laws.specs.world_view_laws.pm_model.Powers.{Supply}
+use Rattle.round_laws.specs.world_view_laws.list_laws.Members.{In}
+use Rattle.round_laws.specs.world_view_laws.posix_types.declared.call.Who.{Who}
+use Rattle.round_laws.specs.world_view_laws.write_jobs.Jobs.{FilledView, JobView}
+use Rattle.round_laws.specs.world_view_laws.Views.{next_of, WorldView}
 use Rattle.thread_laws.specs.Hands.{Gone, HandView}
 use Rattle.thread_laws.specs.Stands.{Stands}
 use Rattle.thread_laws.specs.declared.works.Worked.{Worked}

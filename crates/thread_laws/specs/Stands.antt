@@ -1,13 +1,13 @@
 -- What holds of a World and of the views of all workers while nobody has it.
 use Rattle.std.specs.Prelude.{◌≡◌, ◌≢◌, ◌⊎◌, ◌≤◌, ◌+◌, ◌*◌, ◌^◌, ℕ, Bool, true, false, List, [], ◌∷◌, length, map, sum_by, Option, Some, None, slice_get}
-use Rattle.world_view_laws.specs.pm_model.Powers.{Supply}
-use Rattle.world_view_laws.specs.oplog_entry.layout_model.declared.lines.Draft.{Draft}
-use Rattle.world_view_laws.specs.list_laws.Members.{In}
-use Rattle.world_view_laws.specs.posix_types.declared.call.Who.{Who}
-use Rattle.world_view_laws.specs.live_model.Standing.{JobOut}
-use Rattle.world_view_laws.specs.write_end.Blocks.{AreBlocksHome}
-use Rattle.world_view_laws.specs.Acts.{jobs_of, Last, shows, StaysOf}
-use Rattle.world_view_laws.specs.Views.{WorldView}
+use Rattle.round_laws.specs.world_view_laws.pm_model.Powers.{Supply}
+use Rattle.round_laws.specs.world_view_laws.oplog_entry.layout_model.declared.lines.Draft.{Draft}
+use Rattle.round_laws.specs.world_view_laws.list_laws.Members.{In}
+use Rattle.round_laws.specs.world_view_laws.posix_types.declared.call.Who.{Who}
+use Rattle.round_laws.specs.world_view_laws.live_model.Standing.{JobOut}
+use Rattle.round_laws.specs.world_view_laws.write_end.Blocks.{AreBlocksHome}
+use Rattle.round_laws.specs.world_view_laws.Acts.{jobs_of, Last, shows, StaysOf}
+use Rattle.round_laws.specs.world_view_laws.Views.{WorldView}
 use Rattle.thread_laws.specs.Hands.{Gone, HandView, lap_of, mine_of, Nothing, Sees, Shown}
 
 -- ---- the World

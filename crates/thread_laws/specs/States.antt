@@ -1,11 +1,11 @@
 -- How a worker stands by its view: idle, with a job, or stopped.
 use Rattle.std.specs.Prelude.{◌≡◌, ◌≢◌, ◌⊎◌, ℕ, true, List, [], ◌∷◌, ◌++◌, Option, Some, None}
-use Rattle.world_view_laws.specs.oplog_entry.layout_model.declared.lines.Draft.{Draft}
-use Rattle.world_view_laws.specs.posix_types.declared.call.Who.{Who}
-use Rattle.world_view_laws.specs.live_model.Standing.{JobOut}
-use Rattle.world_view_laws.specs.write_jobs.Jobs.{FilledView, JobView}
-use Rattle.world_view_laws.specs.Begins.{IsFilledOut, IsJobOut}
-use Rattle.world_view_laws.specs.Views.{WorldView}
+use Rattle.round_laws.specs.world_view_laws.oplog_entry.layout_model.declared.lines.Draft.{Draft}
+use Rattle.round_laws.specs.world_view_laws.posix_types.declared.call.Who.{Who}
+use Rattle.round_laws.specs.world_view_laws.live_model.Standing.{JobOut}
+use Rattle.round_laws.specs.world_view_laws.write_jobs.Jobs.{FilledView, JobView}
+use Rattle.round_laws.specs.world_view_laws.Begins.{IsFilledOut, IsJobOut}
+use Rattle.round_laws.specs.world_view_laws.Views.{WorldView}
 use Rattle.thread_laws.specs.Hands.{Gone, HandView, Nothing, Sees, Shown}
 
 -- its caller may begin: a thread was shown a set-up that is done

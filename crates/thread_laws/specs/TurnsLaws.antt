@@ -1,7 +1,7 @@
 -- The laws of the turn's rule.
 use Rattle.std.specs.Prelude.{◌≡◌, ℕ, List, length, slice_get, slice_set, Some}
-use Rattle.world_view_laws.specs.pm_model.Powers.{Supply}
-use Rattle.world_view_laws.specs.Views.{WorldView}
+use Rattle.round_laws.specs.world_view_laws.pm_model.Powers.{Supply}
+use Rattle.round_laws.specs.world_view_laws.Views.{WorldView}
 use Rattle.thread_laws.specs.Hands.{first_hands, HandView}
 use Rattle.thread_laws.specs.Moves.{Knows, MayLeave, MayOpen, next_hand}
 use Rattle.thread_laws.specs.Stands.{Stands}

@@ -5,11 +5,11 @@ use Rattle.oplog_tail.specs.Seats.{SeatView}
 use Rattle.oplog_tail.specs.Views.{claim}
 use Rattle.oplog_tail.specs.oplog_entry.declared.claims.Full.{Full}
 use Rattle.oplog_tail.specs.oplog_entry.declared.claims.Mark.TheVariants.{Lost, Written}
-use Rattle.world_view_laws.specs.pm_model.Powers.{is_on, Supply}
-use Rattle.world_view_laws.specs.oplog_entry.layout_model.declared.lines.Draft.{Draft}
-use Rattle.world_view_laws.specs.list_laws.Members.{In}
-use Rattle.world_view_laws.specs.posix_types.declared.item.Item.{Item}
-use Rattle.world_view_laws.specs.write_jobs.Jobs.{FilledView, JobView}
+use Rattle.round_laws.specs.world_view_laws.pm_model.Powers.{is_on, Supply}
+use Rattle.round_laws.specs.world_view_laws.oplog_entry.layout_model.declared.lines.Draft.{Draft}
+use Rattle.round_laws.specs.world_view_laws.list_laws.Members.{In}
+use Rattle.round_laws.specs.world_view_laws.posix_types.declared.item.Item.{Item}
+use Rattle.round_laws.specs.world_view_laws.write_jobs.Jobs.{FilledView, JobView}
 use Rattle.thread_laws.specs.Hands.{Gone, HandView}
 use Rattle.thread_laws.specs.declared.works.Next.{Next}
 use Rattle.thread_laws.specs.declared.works.Worked.{Worked}

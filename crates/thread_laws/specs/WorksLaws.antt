@@ -4,10 +4,10 @@ use Rattle.oplog_tail.specs.Answers.{Answers}
 use Rattle.oplog_tail.specs.Seats.{SeatView}
 use Rattle.oplog_tail.specs.declared.appends.Appended.{Appended}
 use Rattle.oplog_tail.specs.oplog_entry.declared.claims.Full.{Full}
-use Rattle.world_view_laws.specs.pm_model.Powers.{is_on, Steps, Supply}
+use Rattle.round_laws.specs.world_view_laws.pm_model.Powers.{is_on, Steps, Supply}
 use Rattle.oplog_tail.specs.declared.appends.Receipt.{Receipt}
-use Rattle.world_view_laws.specs.oplog_entry.layout_model.declared.lines.Draft.{Draft}
-use Rattle.world_view_laws.specs.write_jobs.Jobs.{FilledView, JobView}
+use Rattle.round_laws.specs.world_view_laws.oplog_entry.layout_model.declared.lines.Draft.{Draft}
+use Rattle.round_laws.specs.world_view_laws.write_jobs.Jobs.{FilledView, JobView}
 use Rattle.thread_laws.specs.Hands.{Gone, HandView}
 use Rattle.thread_laws.specs.declared.works.Next.{Next}
 use Rattle.thread_laws.specs.declared.works.Worked.{Worked}

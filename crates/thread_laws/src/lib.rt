@@ -20,5 +20,7 @@ mod works;
 
 pub use closes::a_closed_log_is_the_worlds;
 pub use ends::a_round_ends_as_it_may;
+pub use round_laws::{Commit, FilledJob, Job};
 pub use turns::a_turn_keeps_its_world;
 pub use works::{Next, Worked, a_worker_goes_on, each_answer_may_be_left};
+pub use world_parts::{Filled, NoMemory};

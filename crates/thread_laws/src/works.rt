@@ -8,7 +8,7 @@
 ghost use Rattle.thread_laws.specs.MovesLaws.{BegunMayLeave, CutKeepsJob, FilledIsHere, FilledKeepsJob, FinishedMayLeave, FoundMayLeave, GivenUpMayLeave, GoneMayBeFound, IdleMayBegin, JobIsHere, LostMayLeave};
 ghost use Rattle.thread_laws.specs.WorksLaws.{ComesByJob, ComesByLook, ComesFirst, EndsByFinish, EndsByFull, EndsByLook, EndsUnappended, EndsUnfilled, OwnIsBounded};
 
-use world_view_laws::{FilledJob, Job};
+use round_laws::{FilledJob, Job};
 
 /// How a worker goes on behind a look at its next call.
 #[derive(Drop)]

@@ -7,9 +7,9 @@ use Rattle.name_laws.specs.block_counts.Counts.{held_by}
 use Rattle.name_laws.specs.layout_model.declared.lines.Kind.{Kind}
 use Rattle.name_laws.specs.layout_model.declared.lines.Kind.TheVariants.{Directory, File, Free, Staging}
 use Rattle.name_laws.specs.image_model.Volume.{inode}
-use Rattle.posix_laws.specs.posix_tables.declared.nodes.Node.{Node}
-use Rattle.posix_laws.specs.posix_tables.Nodes.{bytes_of, node_at}
-use Rattle.posix_laws.specs.posix_tables.Room.{held}
+use Rattle.crash_spec.specs.posix_laws.posix_tables.declared.nodes.Node.{Node}
+use Rattle.crash_spec.specs.posix_laws.posix_tables.Nodes.{bytes_of, node_at}
+use Rattle.crash_spec.specs.posix_laws.posix_tables.Room.{held}
 use Rattle.world_model.specs.Stands.{is_used, NodeStands, number}
 use Rattle.world_model.specs.TreeRules.{used_below}
 use Rattle.world_model.specs.HeldLaws.{HeldIsTheSum}

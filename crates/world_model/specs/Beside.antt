@@ -5,28 +5,28 @@ use Rattle.std.proofs.Common.{arith, ap, ◌∙◌, sym, subst}
 use Rattle.std.proofs.lemmas.List.{get_or-set_other, get_or-set_same}
 use Rattle.std.proofs.lemmas.List.Sums.{sum_by-cons}
 use Rattle.name_laws.specs.block_counts.Counts.{held_by, reserve_for}
-use Rattle.posix_laws.specs.posix_types.declared.call.Call.{Call}
-use Rattle.posix_laws.specs.posix_types.declared.call.Who.{Who}
-use Rattle.posix_laws.specs.posix_types.declared.handle.Handle.{Handle}
-use Rattle.posix_laws.specs.posix_types.declared.item.Outcome.{Outcome}
-use Rattle.posix_laws.specs.posix_types.declared.reply.Shape.{Shape}
-use Rattle.posix_laws.specs.posix_tables.declared.nodes.Node.{Node}
-use Rattle.posix_laws.specs.posix_tables.declared.open.Description.{Description}
-use Rattle.posix_laws.specs.posix_tables.Nodes.{bytes_of, node_at, published_of}
-use Rattle.posix_laws.specs.posix_tables.Open.{key_of, opened, Tables, with_offset}
-use Rattle.posix_laws.specs.posix_tables.Outcomes.{first}
-use Rattle.posix_laws.specs.posix_tables.Room.{growth, held, staged_below}
-use Rattle.posix_laws.specs.posix_spec.FileRows.{content, file_number, write_rows, write_start}
-use Rattle.posix_laws.specs.posix_spec.Put.{put_at, put_by}
-use Rattle.posix_laws.specs.posix_spec.Run.{after_call, Unfinished}
-use Rattle.posix_laws.specs.posix_spec.State.{alone, Fits, room, State, with_file}
-use Rattle.posix_laws.specs.posix_spec.Step.{pwrite_done, step, stepped, write_done, written}
-use Rattle.posix_laws.specs.FitsLaws.{length-overwritten}
-use Rattle.posix_laws.specs.RowLaws.{put_at-Some, rows-from_Accepts}
+use Rattle.crash_spec.specs.posix_laws.posix_types.declared.call.Call.{Call}
+use Rattle.crash_spec.specs.posix_laws.posix_types.declared.call.Who.{Who}
+use Rattle.crash_spec.specs.posix_laws.posix_types.declared.handle.Handle.{Handle}
+use Rattle.crash_spec.specs.posix_laws.posix_types.declared.item.Outcome.{Outcome}
+use Rattle.crash_spec.specs.posix_laws.posix_types.declared.reply.Shape.{Shape}
+use Rattle.crash_spec.specs.posix_laws.posix_tables.declared.nodes.Node.{Node}
+use Rattle.crash_spec.specs.posix_laws.posix_tables.declared.open.Description.{Description}
+use Rattle.crash_spec.specs.posix_laws.posix_tables.Nodes.{bytes_of, node_at, published_of}
+use Rattle.crash_spec.specs.posix_laws.posix_tables.Open.{key_of, opened, Tables, with_offset}
+use Rattle.crash_spec.specs.posix_laws.posix_tables.Outcomes.{first}
+use Rattle.crash_spec.specs.posix_laws.posix_tables.Room.{growth, held, staged_below}
+use Rattle.crash_spec.specs.posix_laws.posix_spec.FileRows.{content, file_number, write_rows, write_start}
+use Rattle.crash_spec.specs.posix_laws.posix_spec.Put.{put_at, put_by}
+use Rattle.crash_spec.specs.posix_laws.posix_spec.Run.{after_call, Unfinished}
+use Rattle.crash_spec.specs.posix_laws.posix_spec.State.{alone, Fits, room, State, with_file}
+use Rattle.crash_spec.specs.posix_laws.posix_spec.Step.{pwrite_done, step, stepped, write_done, written}
+use Rattle.crash_spec.specs.posix_laws.FitsLaws.{length-overwritten}
+use Rattle.crash_spec.specs.posix_laws.RowLaws.{put_at-Some, rows-from_Accepts}
 use Rattle.crash_spec.specs.Sync.{with_bytes}
-use Rattle.posix_laws.specs.Puts.{LeavesWhole, put_bytes, PutsWhole, with_whole}
-use Rattle.posix_laws.specs.PutLaws.{LeavesWhole-step}
-use Rattle.posix_laws.specs.Views.{KeepsView, need_of, SameView}
+use Rattle.crash_spec.specs.posix_laws.Puts.{LeavesWhole, put_bytes, PutsWhole, with_whole}
+use Rattle.crash_spec.specs.posix_laws.PutLaws.{LeavesWhole-step}
+use Rattle.crash_spec.specs.posix_laws.Views.{KeepsView, need_of, SameView}
 
 -- Tables.
 

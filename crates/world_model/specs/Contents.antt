@@ -16,16 +16,16 @@ use Rattle.name_laws.specs.layout_model.Names as lines
 use Rattle.name_laws.specs.image_model.Content as shown
 use Rattle.name_laws.specs.image_model.Content.{byte_in, bytes_of_file, disk_by, disk_of, entry_of_block, found, HasBytes, IsDirectory, node_by, size_by, size_of}
 use Rattle.name_laws.specs.image_model.Volume.{inode, Volume}
-use Rattle.posix_laws.specs.posix_types.declared.tree.TreeEntry.{TreeEntry}
-use Rattle.posix_laws.specs.posix_types.declared.tree.TreeNode.{TreeNode}
-use Rattle.posix_laws.specs.posix_tables.declared.nodes.Node.{Node}
-use Rattle.posix_laws.specs.posix_tables.Names.{child_of}
-use Rattle.posix_laws.specs.posix_tables.Nodes.{node_at}
-use Rattle.posix_laws.specs.posix_tables.Places.{tree_node}
-use Rattle.posix_laws.specs.posix_spec.State.{State}
+use Rattle.crash_spec.specs.posix_laws.posix_types.declared.tree.TreeEntry.{TreeEntry}
+use Rattle.crash_spec.specs.posix_laws.posix_types.declared.tree.TreeNode.{TreeNode}
+use Rattle.crash_spec.specs.posix_laws.posix_tables.declared.nodes.Node.{Node}
+use Rattle.crash_spec.specs.posix_laws.posix_tables.Names.{child_of}
+use Rattle.crash_spec.specs.posix_laws.posix_tables.Nodes.{node_at}
+use Rattle.crash_spec.specs.posix_laws.posix_tables.Places.{tree_node}
+use Rattle.crash_spec.specs.posix_laws.posix_spec.State.{State}
 use Rattle.crash_spec.specs.list_laws.Filters.{filter-both, filter-In, In-filter}
-use Rattle.posix_laws.specs.Paths.{stands_at, walk_down}
-use Rattle.posix_laws.specs.TreeOf.{IsTreeOf}
+use Rattle.crash_spec.specs.posix_laws.Paths.{stands_at, walk_down}
+use Rattle.crash_spec.specs.posix_laws.TreeOf.{IsTreeOf}
 use Rattle.world_model.specs.Shown.{IsTreeOfContent, shown_as}
 use Rattle.world_model.specs.Stands.{entries_of, FileStands, IsUsed, NodeStands, number, Stands}
 use Rattle.world_model.specs.Latest.{latest-same_members, OneOrderEach, OneOrderEach-filter, SameMembers}

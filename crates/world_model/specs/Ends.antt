@@ -8,16 +8,16 @@ use Rattle.name_laws.specs.image_model.Content as shown
 use Rattle.name_laws.specs.image_model.Content.{found}
 use Rattle.name_laws.specs.image_model.Live.{entry_in, is_live, live_entries, valid_entries}
 use Rattle.name_laws.specs.image_model.Volume.{Volume}
-use Rattle.posix_laws.specs.posix_types.declared.tree.TreeEntry.{TreeEntry}
-use Rattle.posix_laws.specs.posix_spec.Run.{after_call, Unfinished}
-use Rattle.posix_laws.specs.posix_spec.State.{State}
-use Rattle.posix_laws.specs.posix_spec.Tree.{tree}
+use Rattle.crash_spec.specs.posix_laws.posix_types.declared.tree.TreeEntry.{TreeEntry}
+use Rattle.crash_spec.specs.posix_laws.posix_spec.Run.{after_call, Unfinished}
+use Rattle.crash_spec.specs.posix_laws.posix_spec.State.{State}
+use Rattle.crash_spec.specs.posix_laws.posix_spec.Tree.{tree}
 use Rattle.crash_spec.specs.Strict.{StrictFrom}
 use Rattle.crash_spec.specs.Sync.{file_bytes, IsPartOf, SyncFrom, with_bytes}
 use Rattle.crash_spec.specs.list_laws.Filters.{filter-In, filter_map-In, In-filter, In-filter_map, In-map, In-range, map-In, range-In}
 use Rattle.crash_spec.specs.list_laws.Members.{In}
-use Rattle.posix_laws.specs.Entries.{IsTreeLike}
-use Rattle.posix_laws.specs.Paths.{stands_at}
+use Rattle.crash_spec.specs.posix_laws.Entries.{IsTreeLike}
+use Rattle.crash_spec.specs.posix_laws.Paths.{stands_at}
 use Rattle.world_model.specs.Jobs.{unfinished_call, Job, live_claims, Valid}
 use Rattle.world_model.specs.Promised.{AreWhole, LeftBy}
 use Rattle.world_model.specs.Shown.{AreFilled, landed_pairs, shown_as, ShowsClaims}

@@ -11,13 +11,13 @@ use Rattle.name_laws.specs.volume_laws.image_model.layout_model.declared.lines.K
 use Rattle.name_laws.specs.volume_laws.image_model.layout_model.declared.lines.Kind.TheVariants.{Directory, File, Staging}
 use Rattle.name_laws.specs.volume_laws.image_model.Rules.{HasStagingBlocks}
 use Rattle.name_laws.specs.volume_laws.image_model.Volume.{Volume}
-use Rattle.posix_laws.specs.posix_types.declared.call.Call.{Call}
-use Rattle.posix_laws.specs.posix_types.declared.call.Mode.{Mode}
-use Rattle.posix_laws.specs.posix_types.declared.call.Who.{Who}
-use Rattle.posix_laws.specs.posix_types.declared.handle.Flags.{Flags}
-use Rattle.posix_laws.specs.posix_types.declared.handle.Handle.{Handle}
-use Rattle.posix_laws.specs.posix_tables.declared.nodes.Node.{Node}
-use Rattle.posix_laws.specs.posix_spec.State.{State}
+use Rattle.crash_spec.specs.posix_laws.posix_types.declared.call.Call.{Call}
+use Rattle.crash_spec.specs.posix_laws.posix_types.declared.call.Mode.{Mode}
+use Rattle.crash_spec.specs.posix_laws.posix_types.declared.call.Who.{Who}
+use Rattle.crash_spec.specs.posix_laws.posix_types.declared.handle.Flags.{Flags}
+use Rattle.crash_spec.specs.posix_laws.posix_types.declared.handle.Handle.{Handle}
+use Rattle.crash_spec.specs.posix_laws.posix_tables.declared.nodes.Node.{Node}
+use Rattle.crash_spec.specs.posix_laws.posix_spec.State.{State}
 use Rattle.crash_spec.specs.list_laws.Members.{In}
 use Rattle.world_model.specs.Jobs.{Job, live_claims, staged_block}
 

@@ -9,7 +9,7 @@ use Rattle.name_laws.specs.volume_laws.image_model.Live.{is_live, is_of_file}
 use Rattle.name_laws.specs.volume_laws.image_model.Rules.{AreApart}
 use Rattle.name_laws.specs.volume_laws.image_model.Volume.{inode}
 use Rattle.crash_spec.specs.list_laws.Members.{In}
-use Rattle.posix_laws.specs.Puts.{PutsWhole}
+use Rattle.crash_spec.specs.posix_laws.Puts.{PutsWhole}
 use Rattle.world_model.specs.Claims.{ClaimsStand}
 use Rattle.world_model.specs.Jobs.{JobStands, live_claims}
 use Rattle.world_model.specs.Example.{claims_a, entry_a, job_a, numbers_a, one_entry, staged_at, state_a, volume_a, words_a}

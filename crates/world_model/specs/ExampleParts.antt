@@ -16,20 +16,20 @@ use Rattle.name_laws.specs.volume_laws.image_model.Live.{is_directory}
 use Rattle.name_laws.specs.volume_laws.image_model.Rules.{file_blocks_of, HasOneName, HasStagingBlocks, IsInData, IsKindAt, IsNamedOnce, IsRowPlaced}
 use Rattle.name_laws.specs.volume_laws.image_model.Uses.{Holds, owners}
 use Rattle.name_laws.specs.volume_laws.image_model.Volume.{extents, inode}
-use Rattle.posix_laws.specs.posix_tables.declared.nodes.DirEntry.{DirEntry}
-use Rattle.posix_laws.specs.posix_tables.declared.nodes.Node.{Node}
-use Rattle.posix_laws.specs.posix_tables.Names.{child_of}
-use Rattle.posix_laws.specs.posix_tables.Nodes.{node_at}
-use Rattle.posix_laws.specs.posix_tables.Open.{binding_of, key_of, opened}
-use Rattle.posix_laws.specs.posix_spec.FileRows.{write_rows}
-use Rattle.posix_laws.specs.posix_spec.Put.{put_by}
+use Rattle.crash_spec.specs.posix_laws.posix_tables.declared.nodes.DirEntry.{DirEntry}
+use Rattle.crash_spec.specs.posix_laws.posix_tables.declared.nodes.Node.{Node}
+use Rattle.crash_spec.specs.posix_laws.posix_tables.Names.{child_of}
+use Rattle.crash_spec.specs.posix_laws.posix_tables.Nodes.{node_at}
+use Rattle.crash_spec.specs.posix_laws.posix_tables.Open.{binding_of, key_of, opened}
+use Rattle.crash_spec.specs.posix_laws.posix_spec.FileRows.{write_rows}
+use Rattle.crash_spec.specs.posix_laws.posix_spec.Put.{put_by}
 use Rattle.crash_spec.specs.list_laws.Members.{In}
-use Rattle.posix_laws.specs.Puts.{PutsWhole}
-use Rattle.posix_laws.specs.Views.{AreAfforded}
+use Rattle.crash_spec.specs.posix_laws.Puts.{PutsWhole}
+use Rattle.crash_spec.specs.posix_laws.Views.{AreAfforded}
 use Rattle.world_model.specs.Jobs.{unfinished_call, live_claims}
 use Rattle.world_model.specs.Stands.{Consecutive, entries_of, FileStands, IsSane, IsUsed, LogStands, NamesStand, NodesStand, NodeStands, number}
 use Rattle.world_model.specs.Example.{claims_a, entry_a, job_a, numbers_a, one_entry, staged_at, staged_extent, state_a, volume_a, words_a}
-use Rattle.posix_laws.specs.posix_spec.State.{Fits}
+use Rattle.crash_spec.specs.posix_laws.posix_spec.State.{Fits}
 
 -- What the volume keeps.
 

@@ -6,7 +6,7 @@ use Rattle.name_laws.specs.pm_model.Words.{Words}
 use Rattle.name_laws.specs.layout_model.declared.lines.Draft.{Draft}
 use Rattle.name_laws.specs.image_model.Live.{entry_in, is_live, live_entries}
 use Rattle.name_laws.specs.image_model.Volume.{Volume}
-use Rattle.posix_laws.specs.posix_spec.State.{State}
+use Rattle.crash_spec.specs.posix_laws.posix_spec.State.{State}
 use Rattle.crash_spec.specs.list_laws.Filters.{filter-In, filter_map-In, range-In}
 use Rattle.crash_spec.specs.list_laws.Members.{In}
 use Rattle.world_model.specs.Claims.{ClaimsStand}
@@ -17,7 +17,7 @@ use Rattle.world_model.specs.JobLaws.{acted, live_claims-more, Valid-dropped, Va
 use Rattle.world_model.specs.Lent.{Valid-words}
 use Rattle.world_model.specs.LogRulesLaws.{MayRecover}
 use Rattle.world_model.specs.LogRules.{ClaimsStand-landed, live_parts, log_promise}
-use Rattle.posix_laws.specs.Entries.{AreDifferent, few}
+use Rattle.crash_spec.specs.posix_laws.Entries.{AreDifferent, few}
 
 -- entries that pass a test, found by rising numbers, are different where those of two numbers are
 different_found : (p : Draft → Bool) (h : ℕ → Option Draft) (a n : ℕ)

@@ -15,10 +15,10 @@ use Rattle.name_laws.specs.image_model.Content.{size_of}
 use Rattle.name_laws.specs.image_model.Live.{is_file}
 use Rattle.name_laws.specs.image_model.Room.{held_after_recovery, is_named_file}
 use Rattle.name_laws.specs.image_model.Volume.{inode, Volume}
-use Rattle.posix_laws.specs.posix_tables.declared.nodes.Node.{Node}
-use Rattle.posix_laws.specs.posix_tables.Nodes.{bytes_of, node_at}
-use Rattle.posix_laws.specs.posix_tables.Room.{held}
-use Rattle.posix_laws.specs.posix_spec.State.{Fits, State}
+use Rattle.crash_spec.specs.posix_laws.posix_tables.declared.nodes.Node.{Node}
+use Rattle.crash_spec.specs.posix_laws.posix_tables.Nodes.{bytes_of, node_at}
+use Rattle.crash_spec.specs.posix_laws.posix_tables.Room.{held}
+use Rattle.crash_spec.specs.posix_laws.posix_spec.State.{Fits, State}
 use Rattle.world_model.specs.Stands.{Consecutive, entries_of, is_used, IsUsed, NodeStands, number, Stands}
 use Rattle.world_model.specs.Contents.{size-same}
 use Rattle.world_model.specs.Landed.{kind_file}

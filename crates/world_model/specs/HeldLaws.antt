@@ -6,8 +6,8 @@ use Rattle.name_laws.specs.layout_model.declared.lines.Draft.{Draft}
 use Rattle.name_laws.specs.layout_model.declared.lines.Kind.TheVariants.{File}
 use Rattle.name_laws.specs.image_model.Content.{size_of}
 use Rattle.name_laws.specs.image_model.Volume.{inode, Volume}
-use Rattle.posix_laws.specs.posix_tables.Room.{held}
-use Rattle.posix_laws.specs.posix_spec.State.{State}
+use Rattle.crash_spec.specs.posix_laws.posix_tables.Room.{held}
+use Rattle.crash_spec.specs.posix_laws.posix_spec.State.{State}
 use Rattle.world_model.specs.Stands.{Stands}
 
 -- THE SIZES of the inode lines: that of a file as its live entries give it, and 0 of all else.

@@ -13,16 +13,16 @@ use Rattle.name_laws.specs.image_model.Content.{byte_in}
 use Rattle.name_laws.specs.image_model.Live.{is_file, is_live, is_of_file}
 use Rattle.name_laws.specs.image_model.Rules.{AreApart}
 use Rattle.name_laws.specs.image_model.Volume.{inode, Volume}
-use Rattle.posix_laws.specs.posix_tables.declared.nodes.Node.{Node}
-use Rattle.posix_laws.specs.posix_tables.Nodes.{bytes_of, node_at}
-use Rattle.posix_laws.specs.posix_spec.Run.{after_call, Unfinished}
-use Rattle.posix_laws.specs.posix_spec.State.{room, State}
+use Rattle.crash_spec.specs.posix_laws.posix_tables.declared.nodes.Node.{Node}
+use Rattle.crash_spec.specs.posix_laws.posix_tables.Nodes.{bytes_of, node_at}
+use Rattle.crash_spec.specs.posix_laws.posix_spec.Run.{after_call, Unfinished}
+use Rattle.crash_spec.specs.posix_laws.posix_spec.State.{room, State}
 use Rattle.crash_spec.specs.Sync.{IsPartOf, with_bytes}
 use Rattle.crash_spec.specs.list_laws.Filters.{filter-more}
 use Rattle.crash_spec.specs.list_laws.Members.{pushed-In}
-use Rattle.posix_laws.specs.Puts.{LeavesWhole, with_whole}
-use Rattle.posix_laws.specs.ViewLaws.{need_of-kept, PutsWhole-kept}
-use Rattle.posix_laws.specs.Views.{KeepsView, need_of}
+use Rattle.crash_spec.specs.posix_laws.Puts.{LeavesWhole, with_whole}
+use Rattle.crash_spec.specs.posix_laws.ViewLaws.{need_of-kept, PutsWhole-kept}
+use Rattle.crash_spec.specs.posix_laws.Views.{KeepsView, need_of}
 use Rattle.world_model.specs.Jobs.{ApartFrom, AreApartJobs, unfinished_call, HoldsWhole, Job, JobsStand, JobStands, live_claims, Valid}
 use Rattle.world_model.specs.Promised.{Acts}
 use Rattle.world_model.specs.Stands.{is_used, IsUsed, number, Stands}

@@ -10,15 +10,15 @@ use Rattle.name_laws.specs.volume_laws.image_model.Content.{byte_in, disk_of}
 use Rattle.name_laws.specs.volume_laws.image_model.Live.{is_live}
 use Rattle.name_laws.specs.volume_laws.image_model.Rules.{AreApart, HasStagingBlocks}
 use Rattle.name_laws.specs.volume_laws.image_model.Volume.{extents, inode, Volume}
-use Rattle.posix_laws.specs.posix_types.declared.call.Call.{Call}
-use Rattle.posix_laws.specs.posix_types.declared.call.Who.{Who}
-use Rattle.posix_laws.specs.posix_tables.Nodes.{bytes_of, node_at}
-use Rattle.posix_laws.specs.posix_spec.Run.{Unfinished}
-use Rattle.posix_laws.specs.posix_spec.State.{Fits, State}
+use Rattle.crash_spec.specs.posix_laws.posix_types.declared.call.Call.{Call}
+use Rattle.crash_spec.specs.posix_laws.posix_types.declared.call.Who.{Who}
+use Rattle.crash_spec.specs.posix_laws.posix_tables.Nodes.{bytes_of, node_at}
+use Rattle.crash_spec.specs.posix_laws.posix_spec.Run.{Unfinished}
+use Rattle.crash_spec.specs.posix_laws.posix_spec.State.{Fits, State}
 use Rattle.crash_spec.specs.Sync.{IsPartOf}
 use Rattle.crash_spec.specs.list_laws.Members.{In}
-use Rattle.posix_laws.specs.Puts.{PutsWhole}
-use Rattle.posix_laws.specs.Views.{AreAfforded}
+use Rattle.crash_spec.specs.posix_laws.Puts.{PutsWhole}
+use Rattle.crash_spec.specs.posix_laws.Views.{AreAfforded}
 use Rattle.world_model.specs.Stands.{entries_of, number, Stands}
 
 -- A logged write that has begun and not returned: its caller and call, its entry, the bytes that its file has afterwards,

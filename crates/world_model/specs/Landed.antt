@@ -13,14 +13,14 @@ use Rattle.name_laws.specs.image_model.Content.{byte_in, disk_by, disk_of, size_
 use Rattle.name_laws.specs.image_model.Live.{is_file, latest}
 use Rattle.name_laws.specs.image_model.Rules.{AreApart, HasStagingBlocks}
 use Rattle.name_laws.specs.image_model.Volume.{inode, Volume}
-use Rattle.posix_laws.specs.posix_tables.declared.nodes.Node.{Node}
-use Rattle.posix_laws.specs.posix_tables.Lookups.{AreDistinct}
-use Rattle.posix_laws.specs.posix_tables.Names.{child_of}
-use Rattle.posix_laws.specs.posix_tables.Nodes.{node_at}
-use Rattle.posix_laws.specs.posix_spec.State.{State}
+use Rattle.crash_spec.specs.posix_laws.posix_tables.declared.nodes.Node.{Node}
+use Rattle.crash_spec.specs.posix_laws.posix_tables.Lookups.{AreDistinct}
+use Rattle.crash_spec.specs.posix_laws.posix_tables.Names.{child_of}
+use Rattle.crash_spec.specs.posix_laws.posix_tables.Nodes.{node_at}
+use Rattle.crash_spec.specs.posix_laws.posix_spec.State.{State}
 use Rattle.crash_spec.specs.list_laws.Filters.{filter-In, filter-more, filter-same, In-filter}
 use Rattle.crash_spec.specs.list_laws.Members.{In, pushed-In}
-use Rattle.posix_laws.specs.Puts.{LeavesWhole, with_whole}
+use Rattle.crash_spec.specs.posix_laws.Puts.{LeavesWhole, with_whole}
 use Rattle.world_model.specs.Jobs.{HoldsWhole, staged_block}
 use Rattle.world_model.specs.Stands.{Consecutive, entries_of, FileStands, is_used, IsUsed, LogStands, NamesStand, NodeStands, number, Stands}
 use Rattle.world_model.specs.Latest.{AreBelow, AreBelow-Consecutive, Consecutive-append, latest-append_last}

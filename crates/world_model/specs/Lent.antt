@@ -15,8 +15,8 @@ use Rattle.name_laws.specs.image_model.Rules.{AreApart, file_blocks_of, IsNamedO
 use Rattle.name_laws.specs.image_model.Volume.{extents, free_inode, inode, Volume}
 use Rattle.name_laws.specs.volume_laws.OwnerLaws.{IsOnePlace, one_owner}
 use Rattle.name_laws.specs.volume_laws.PoolLaws.{covered-in_data}
-use Rattle.posix_laws.specs.posix_tables.Nodes.{node_at}
-use Rattle.posix_laws.specs.posix_spec.State.{State}
+use Rattle.crash_spec.specs.posix_laws.posix_tables.Nodes.{node_at}
+use Rattle.crash_spec.specs.posix_laws.posix_spec.State.{State}
 use Rattle.crash_spec.specs.list_laws.Filters.{filter-In}
 use Rattle.crash_spec.specs.list_laws.Members.{In}
 use Rattle.world_model.specs.Jobs.{IsStagedIn, Job, JobsStand, live_claims, Valid}

@@ -34,8 +34,8 @@ pub use Rattle.name_laws.specs.layout_model
 pub use Rattle.crash_spec.specs.list_laws
 pub use Rattle.name_laws.specs as name_laws
 pub use Rattle.name_laws.specs.pm_model
-pub use Rattle.posix_laws.specs as posix_laws
-pub use Rattle.posix_laws.specs.posix_spec
-pub use Rattle.posix_laws.specs.posix_types
-pub use Rattle.posix_laws.specs.posix_tables
+pub use Rattle.crash_spec.specs.posix_laws as posix_laws
+pub use Rattle.crash_spec.specs.posix_laws.posix_spec
+pub use Rattle.crash_spec.specs.posix_laws.posix_types
+pub use Rattle.crash_spec.specs.posix_laws.posix_tables
 pub use Rattle.name_laws.specs.volume_laws as volume_laws

@@ -11,8 +11,8 @@ use Rattle.name_laws.specs.image_model.Live.{entry_in, is_live, is_of_file, live
 use Rattle.name_laws.specs.image_model.Room.{held_after_recovery}
 use Rattle.name_laws.specs.image_model.Rules.{AreApart, HasStagingBlocks}
 use Rattle.name_laws.specs.image_model.Volume.{inode, Volume}
-use Rattle.posix_laws.specs.posix_types.declared.reply.Shape.{Shape}
-use Rattle.posix_laws.specs.posix_spec.State.{State}
+use Rattle.crash_spec.specs.posix_laws.posix_types.declared.reply.Shape.{Shape}
+use Rattle.crash_spec.specs.posix_laws.posix_spec.State.{State}
 use Rattle.crash_spec.specs.list_laws.Filters.{In-filter, In-map}
 use Rattle.crash_spec.specs.list_laws.Members.{In, In-slice_get, pushed-In}
 use Rattle.world_model.specs.Claims.{ClaimsStand}

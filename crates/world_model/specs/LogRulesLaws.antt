@@ -7,7 +7,7 @@ use Rattle.name_laws.specs.layout_model.declared.lines.Draft.{Draft}
 use Rattle.name_laws.specs.image_model.Honest.{IsHonest}
 use Rattle.name_laws.specs.image_model.Rules.{CanRecover, IsOfNoLater}
 use Rattle.name_laws.specs.image_model.Volume.{Volume}
-use Rattle.posix_laws.specs.posix_spec.State.{State}
+use Rattle.crash_spec.specs.posix_laws.posix_spec.State.{State}
 use Rattle.world_model.specs.Claims.{ClaimsStand}
 use Rattle.world_model.specs.Jobs.{Job, Valid}
 use Rattle.world_model.specs.Promised.{IsShown}

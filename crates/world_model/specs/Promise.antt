@@ -6,12 +6,12 @@ use Rattle.name_laws.specs.layout_model.declared.lines.Draft.{Draft}
 use Rattle.name_laws.specs.image_model.Content as shown
 use Rattle.name_laws.specs.image_model.Content.{found}
 use Rattle.name_laws.specs.image_model.Volume.{Volume}
-use Rattle.posix_laws.specs.posix_types.declared.tree.TreeEntry.{TreeEntry}
-use Rattle.posix_laws.specs.posix_spec.Run.{run}
-use Rattle.posix_laws.specs.posix_spec.State.{State}
-use Rattle.posix_laws.specs.posix_spec.Tree.{tree}
-use Rattle.posix_laws.specs.TreeOf.{IsTreeOf-same, IsTreeOf-tree}
-use Rattle.posix_laws.specs.Paths.{stands_at}
+use Rattle.crash_spec.specs.posix_laws.posix_types.declared.tree.TreeEntry.{TreeEntry}
+use Rattle.crash_spec.specs.posix_laws.posix_spec.Run.{run}
+use Rattle.crash_spec.specs.posix_laws.posix_spec.State.{State}
+use Rattle.crash_spec.specs.posix_laws.posix_spec.Tree.{tree}
+use Rattle.crash_spec.specs.posix_laws.TreeOf.{IsTreeOf-same, IsTreeOf-tree}
+use Rattle.crash_spec.specs.posix_laws.Paths.{stands_at}
 use Rattle.world_model.specs.Jobs.{Job, Valid}
 use Rattle.world_model.specs.Promised.{content_shown, IsShown, LeftBy}
 use Rattle.world_model.specs.Shown.{IsTreeOfContent}

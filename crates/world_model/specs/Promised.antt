@@ -5,13 +5,13 @@ use Rattle.name_laws.specs.volume_laws.image_model.layout_model.declared.lines.D
 use Rattle.name_laws.specs.volume_laws.image_model.Content.{found, Node}
 use Rattle.name_laws.specs.volume_laws.image_model.Live.{live_entries}
 use Rattle.name_laws.specs.volume_laws.image_model.Volume.{Volume}
-use Rattle.posix_laws.specs.posix_types.declared.tree.TreeEntry.{TreeEntry}
-use Rattle.posix_laws.specs.posix_tables.Nodes.{bytes_of, node_at}
-use Rattle.posix_laws.specs.posix_spec.Run.{after_call}
-use Rattle.posix_laws.specs.posix_spec.State.{State}
-use Rattle.posix_laws.specs.posix_spec.Tree.{tree}
+use Rattle.crash_spec.specs.posix_laws.posix_types.declared.tree.TreeEntry.{TreeEntry}
+use Rattle.crash_spec.specs.posix_laws.posix_tables.Nodes.{bytes_of, node_at}
+use Rattle.crash_spec.specs.posix_laws.posix_spec.Run.{after_call}
+use Rattle.crash_spec.specs.posix_laws.posix_spec.State.{State}
+use Rattle.crash_spec.specs.posix_laws.posix_spec.Tree.{tree}
 use Rattle.crash_spec.specs.Sync.{IsPartOf, with_bytes}
-use Rattle.posix_laws.specs.Puts.{PutsWhole}
+use Rattle.crash_spec.specs.posix_laws.Puts.{PutsWhole}
 use Rattle.world_model.specs.Jobs.{unfinished_call, Job}
 use Rattle.world_model.specs.Shown.{AreFilled, landed_pairs, SameButLent, ShowsClaims}
 

@@ -7,11 +7,11 @@ use Rattle.name_laws.specs.volume_laws.image_model.Content as shown
 use Rattle.name_laws.specs.volume_laws.image_model.Content.{HasBytes, IsDirectory}
 use Rattle.name_laws.specs.volume_laws.image_model.Live.{entry_in}
 use Rattle.name_laws.specs.volume_laws.image_model.Volume.{Volume}
-use Rattle.posix_laws.specs.posix_types.declared.tree.TreeEntry.{TreeEntry}
-use Rattle.posix_laws.specs.posix_types.declared.tree.TreeNode.{TreeNode}
-use Rattle.posix_laws.specs.posix_tables.Places.{printed}
+use Rattle.crash_spec.specs.posix_laws.posix_types.declared.tree.TreeEntry.{TreeEntry}
+use Rattle.crash_spec.specs.posix_laws.posix_types.declared.tree.TreeNode.{TreeNode}
+use Rattle.crash_spec.specs.posix_laws.posix_tables.Places.{printed}
 use Rattle.crash_spec.specs.list_laws.Members.{In}
-use Rattle.posix_laws.specs.Order.{RisingBy}
+use Rattle.crash_spec.specs.posix_laws.Order.{RisingBy}
 use Rattle.world_model.specs.Jobs.{HoldsWhole, IsStagedIn, Job}
 
 -- the log of the image has just these entries, each in its slot

@@ -10,11 +10,11 @@ use Rattle.name_laws.specs.volume_laws.image_model.Content.{byte_in, disk_of, si
 use Rattle.name_laws.specs.volume_laws.image_model.Kept.{AreKept}
 use Rattle.name_laws.specs.volume_laws.image_model.Rules.{AreApart, HasStagingBlocks}
 use Rattle.name_laws.specs.volume_laws.image_model.Volume.{inode, Volume}
-use Rattle.posix_laws.specs.posix_tables.declared.nodes.Node.{Node}
-use Rattle.posix_laws.specs.posix_tables.Lookups.{AreDistinct}
-use Rattle.posix_laws.specs.posix_tables.Names.{child_of}
-use Rattle.posix_laws.specs.posix_tables.Nodes.{node_at}
-use Rattle.posix_laws.specs.posix_spec.State.{State}
+use Rattle.crash_spec.specs.posix_laws.posix_tables.declared.nodes.Node.{Node}
+use Rattle.crash_spec.specs.posix_laws.posix_tables.Lookups.{AreDistinct}
+use Rattle.crash_spec.specs.posix_laws.posix_tables.Names.{child_of}
+use Rattle.crash_spec.specs.posix_laws.posix_tables.Nodes.{node_at}
+use Rattle.crash_spec.specs.posix_laws.posix_spec.State.{State}
 use Rattle.crash_spec.specs.list_laws.Members.{In}
 
 -- The volume is sane: it keeps the rules of a checked image that speak of it alone, each inode has a line, a chain and a

@@ -17,12 +17,12 @@ use Rattle.name_laws.specs.image_model.Volume.{free_inode, inode, Volume}
 use Rattle.name_laws.specs.k_split_model.Spaces.{is_directory_in}
 use Rattle.name_laws.specs.KeptLaws.{HasAllLines, kept-forest, kept-keyed, kept-named, kept-one_name, kept-placed}
 use Rattle.name_laws.specs.RowLaws.{names_of-one_line, names_of-zero}
-use Rattle.posix_laws.specs.posix_tables.declared.nodes.DirEntry.{DirEntry}
-use Rattle.posix_laws.specs.posix_tables.Names.{child_of}
-use Rattle.posix_laws.specs.posix_spec.State.{State}
+use Rattle.crash_spec.specs.posix_laws.posix_tables.declared.nodes.DirEntry.{DirEntry}
+use Rattle.crash_spec.specs.posix_laws.posix_tables.Names.{child_of}
+use Rattle.crash_spec.specs.posix_laws.posix_spec.State.{State}
 use Rattle.crash_spec.specs.list_laws.Members.{In}
-use Rattle.posix_laws.specs.Entries.{child_of-In, HoldsEntry, IsDeep, IsTreeLike, Leads-child_of}
-use Rattle.posix_laws.specs.Paths.{HasNoSlash, IsFilled, IsPlainName}
+use Rattle.crash_spec.specs.posix_laws.Entries.{child_of-In, HoldsEntry, IsDeep, IsTreeLike, Leads-child_of}
+use Rattle.crash_spec.specs.posix_laws.Paths.{HasNoSlash, IsFilled, IsPlainName}
 use Rattle.world_model.specs.Stands.{is_used, IsSane, IsUsed, NamesStand, number}
 
 pub all_lines : (v : Volume) → IsSane v → HasAllLines v

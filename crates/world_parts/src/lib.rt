@@ -24,8 +24,8 @@ pub use losses::{lose, lose_one};
 pub use outcomes::{Begun, Crashed, Ended, Finished, Ready, Unfinished};
 pub use parts::{Parts, add};
 pub use world_view_laws::{
-    Commit, FileTable, FilledJob, Full, Job, JobOut, KSplit, NoMemory, OpenFiles, Over, Told,
-    call_at, calls_made, finish_write, finished_writes_end_with_their_files, fsync, gather,
+    Commit, FileTable, Filled, FilledJob, Full, Job, JobOut, KSplit, NoMemory, OpenFiles, Over,
+    Told, call_at, calls_made, finish_write, finished_writes_end_with_their_files, fsync, gather,
     give_up_write, move_by, place_front, place_of, put_lines, run_call, settle_blocks, take_job,
     waits_for, what_stands_may_be_published,
 };

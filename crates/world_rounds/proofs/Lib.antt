@@ -7,3 +7,4 @@ mod Lapping
 mod Checking
 mod Endings
 pub use Rattle.world_parts.proofs as world_parts_proofs
+pub use Rattle.round_laws.proofs as round_laws_proofs

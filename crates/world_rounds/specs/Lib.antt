@@ -11,3 +11,4 @@ pub use Rattle.world_parts.specs.pm_model
 pub use Rattle.world_parts.specs.posix_spec
 pub use Rattle.world_parts.specs as world_parts
 pub use Rattle.world_parts.specs.write_jobs
+pub use Rattle.round_laws.specs as round_laws

@@ -18,4 +18,8 @@ pub use job_ends::{
     Commit, Crashed, Ended, FileTable, FilledJob, Job, JobOut, NoMemory, Parts, Unfinished,
     finish_off, finish_on, gather, give_up_off, give_up_on, lose_one, put_lines,
 };
+pub use round_laws::{
+    Full, KSplit, MountFault, OpenFiles, Staging, a_remount_shows_the_same, a_world_begins,
+    calls_made, mount, no_calls, script_length, table_of,
+};
 pub use rounds::{an_unmount_ends_a_run, begin_lines, crash_lost, end_lines, end_run, keep_lines};

@@ -4,11 +4,11 @@ use Rattle.std.proofs.Common.{arith, ap, ◌∙◌, sym, subst, inl, inr, length
 use Rattle.file_calls.specs.eof_laws.Ends.{DraftEnds, FilesEnd}
 use Rattle.in_flight.specs.file_table.Files.{Files}
 use Rattle.in_flight.specs.k_split_model.View.{View}
-use Rattle.eof_laws.specs.list_laws.Members.{In, pushed-In}
+use Rattle.file_calls.specs.eof_laws.list_laws.Members.{In, pushed-In}
 use Rattle.file_calls.specs.k_split_laws.Left.{IsLeftOf}
-use Rattle.eof_laws.specs.posix_types.declared.call.Call.{Call}
-use Rattle.eof_laws.specs.posix_types.declared.call.Who.{Who}
-use Rattle.eof_laws.specs.posix_tables.Open.{Tables}
+use Rattle.file_calls.specs.eof_laws.posix_types.declared.call.Call.{Call}
+use Rattle.file_calls.specs.eof_laws.posix_types.declared.call.Who.{Who}
+use Rattle.file_calls.specs.eof_laws.posix_tables.Open.{Tables}
 use Rattle.in_flight.specs.posix_spec.Run.{after_call}
 use Rattle.in_flight.specs.posix_spec.Scripted.{IsSetUp}
 use Rattle.in_flight.specs.posix_spec.State.{State}

@@ -1,19 +1,19 @@
 -- A crash: all that is out comes back, and what is left of the run.
 use Rattle.std.specs.Prelude.{◌≡◌, ◌⊎◌, ◌≤◌, ◌<◌, ◌+◌, ◌*◌, ◌/◌, ◌++◌, ℕ, true, false, List, [], ◌∷◌, filter, length, map, refl}
 use Rattle.std.proofs.Common.{ap, ◌∙◌, sym, subst, inl, inr}
-use Rattle.eof_laws.specs.pm_model.declared.Cell.{Cell}
-use Rattle.eof_laws.specs.pm_model.Cells.{AllHome, cell, is_lent}
-use Rattle.eof_laws.specs.pm_model.Parts.{Part}
+use Rattle.file_calls.specs.eof_laws.pm_model.declared.Cell.{Cell}
+use Rattle.file_calls.specs.eof_laws.pm_model.Cells.{AllHome, cell, is_lent}
+use Rattle.file_calls.specs.eof_laws.pm_model.Parts.{Part}
 use Rattle.in_flight.specs.block_io.Overwrites.{IsInLines}
-use Rattle.eof_laws.specs.layout_model.declared.lines.Draft.{Draft}
-use Rattle.eof_laws.specs.layout_model.Places.{Geometry, log_line}
+use Rattle.file_calls.specs.eof_laws.layout_model.declared.lines.Draft.{Draft}
+use Rattle.file_calls.specs.eof_laws.layout_model.Places.{Geometry, log_line}
 use Rattle.in_flight.specs.image_model.Volume.{Volume}
 use Rattle.in_flight.specs.file_table.Files.{Files}
 use Rattle.in_flight.specs.k_split_model.View.{View}
 use Rattle.in_flight.specs.block_io.Lines.{LinesComeBack}
-use Rattle.eof_laws.specs.list_laws.Members.{In}
-use Rattle.eof_laws.specs.posix_spec.Run.{Unfinished}
-use Rattle.eof_laws.specs.posix_tables.Open.{Tables}
+use Rattle.file_calls.specs.eof_laws.list_laws.Members.{In}
+use Rattle.file_calls.specs.eof_laws.posix_spec.Run.{Unfinished}
+use Rattle.file_calls.specs.eof_laws.posix_tables.Open.{Tables}
 use Rattle.in_flight.specs.Counts.{history_within}
 use Rattle.in_flight.specs.staging_files.Keeps.{Staged}
 use Rattle.in_flight.specs.world_image_laws.Promised.{KeepsPromise}

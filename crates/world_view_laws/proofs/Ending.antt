@@ -1,18 +1,18 @@
 -- A job of a World ends while the power is on.
 use Rattle.std.specs.Prelude.{◌≡◌, ◌≢◌, ◌<◌, ◌≤◌, ◌+◌, ◌++◌, not, ℕ, suc, Bool, true, false, cond, List, [], ◌∷◌, length, map, Option, Some, None, AllPairs, slice_index, refl}
 use Rattle.std.proofs.Common.{arith, ap, ◌∙◌, sym, subst, inl, inr, length-append}
-use Rattle.eof_laws.specs.pm_model.Cells.{cell, is_lent}
-use Rattle.eof_laws.specs.pm_model.ImageLaws.{IsImage-words_of}
-use Rattle.eof_laws.specs.pm_model.Images.{words_of}
-use Rattle.eof_laws.specs.layout_model.declared.lines.Draft.{Draft}
+use Rattle.file_calls.specs.eof_laws.pm_model.Cells.{cell, is_lent}
+use Rattle.file_calls.specs.eof_laws.pm_model.ImageLaws.{IsImage-words_of}
+use Rattle.file_calls.specs.eof_laws.pm_model.Images.{words_of}
+use Rattle.file_calls.specs.eof_laws.layout_model.declared.lines.Draft.{Draft}
 use Rattle.in_flight.specs.image_model.Volume.{Volume}
 use Rattle.file_calls.specs.eof_laws.Ends.{FilesEnd}
 use Rattle.in_flight.specs.file_table.Files.{Files}
 use Rattle.in_flight.specs.k_split_model.View.{View}
-use Rattle.eof_laws.specs.list_laws.Filters.{filter-In, In-filter}
-use Rattle.eof_laws.specs.list_laws.Members.{In, pushed-In}
-use Rattle.eof_laws.specs.posix_types.declared.call.Who.{Who}
-use Rattle.eof_laws.specs.posix_tables.Open.{same_who, Tables}
+use Rattle.file_calls.specs.eof_laws.list_laws.Filters.{filter-In, In-filter}
+use Rattle.file_calls.specs.eof_laws.list_laws.Members.{In, pushed-In}
+use Rattle.file_calls.specs.eof_laws.posix_types.declared.call.Who.{Who}
+use Rattle.file_calls.specs.eof_laws.posix_tables.Open.{same_who, Tables}
 use Rattle.in_flight.specs.posix_spec.Run.{after_call}
 use Rattle.in_flight.specs.posix_spec.State.{State}
 use Rattle.in_flight.specs.posix_spec.Step.{step}
@@ -24,7 +24,7 @@ use Rattle.in_flight.specs.world_image_laws.world_model.JobLaws.{live_used}
 use Rattle.in_flight.specs.world_image_laws.world_model.TreeRules.{used_below}
 use Rattle.in_flight.specs.live_model.Standing.{AreOfTwoThreads, IsSpellable, JobOut, StandsAt}
 use Rattle.in_flight.specs.live_model.Jobs.{SpellCall, without}
-use Rattle.eof_laws.specs.posix_types.declared.call.Mode.{Mode}
+use Rattle.file_calls.specs.eof_laws.posix_types.declared.call.Mode.{Mode}
 use Rattle.write_end.specs.Ends.{begun_by, CanFinish, CanGiveUp, HasJob, HasWrite, LeavesFinished, LeavesGivenUp}
 use Rattle.write_end.specs.Landing.{front_end}
 use Rattle.in_flight.specs.write_jobs.Jobs.{FilledView}

@@ -1,16 +1,16 @@
 -- The job of a caller, the reply of its call, and the ends of files once it finished.
 use Rattle.std.specs.Prelude.{◌≡◌, ℕ, suc, Bool, true, false, List, [], ◌∷◌, length, Some, AllPairs, refl}
 use Rattle.std.proofs.Common.{arith, ap, ◌∙◌, sym, inl, inr}
-use Rattle.eof_laws.specs.layout_model.Places.{Geometry}
+use Rattle.file_calls.specs.eof_laws.layout_model.Places.{Geometry}
 use Rattle.in_flight.specs.file_table.Files.{Files}
-use Rattle.eof_laws.specs.FinishesLaws.{EndFinished}
+use Rattle.file_calls.specs.eof_laws.FinishesLaws.{EndFinished}
 use Rattle.in_flight.specs.k_split_model.View.{View}
-use Rattle.eof_laws.specs.list_laws.Members.{In}
-use Rattle.eof_laws.specs.posix_types.declared.call.Call.{Call}
-use Rattle.eof_laws.specs.posix_types.declared.call.Who.{Who}
-use Rattle.eof_laws.specs.posix_types.declared.reply.Reply.{Reply}
-use Rattle.eof_laws.specs.posix_tables.Open.{same_who, Tables}
-use Rattle.eof_laws.specs.posix_tables.Outcomes.{answer}
+use Rattle.file_calls.specs.eof_laws.list_laws.Members.{In}
+use Rattle.file_calls.specs.eof_laws.posix_types.declared.call.Call.{Call}
+use Rattle.file_calls.specs.eof_laws.posix_types.declared.call.Who.{Who}
+use Rattle.file_calls.specs.eof_laws.posix_types.declared.reply.Reply.{Reply}
+use Rattle.file_calls.specs.eof_laws.posix_tables.Open.{same_who, Tables}
+use Rattle.file_calls.specs.eof_laws.posix_tables.Outcomes.{answer}
 use Rattle.in_flight.specs.posix_spec.FileRows.{write_start}
 use Rattle.in_flight.specs.posix_spec.Put.{Put, put_by}
 use Rattle.in_flight.specs.posix_spec.State.{State}

@@ -1,10 +1,10 @@
 -- Loans come home one after the other, those of one job after those of another.
 use Rattle.std.specs.Prelude.{◌≡◌, ◌≢◌, ◌⊎◌, ◌<◌, ◌/◌, ◌%◌, ◌++◌, ℕ, suc, false, List, [], ◌∷◌, length, refl}
 use Rattle.std.proofs.Common.{append_assoc, arith, ap, ◌∙◌, sym, subst, inl, inr}
-use Rattle.eof_laws.specs.pm_model.declared.Cell.{Cell}
-use Rattle.eof_laws.specs.pm_model.Cells.{cell, is_lent, unmarked}
-use Rattle.eof_laws.specs.pm_model.Parts.{ComesBack, Part}
-use Rattle.eof_laws.specs.list_laws.Members.{In}
+use Rattle.file_calls.specs.eof_laws.pm_model.declared.Cell.{Cell}
+use Rattle.file_calls.specs.eof_laws.pm_model.Cells.{cell, is_lent, unmarked}
+use Rattle.file_calls.specs.eof_laws.pm_model.Parts.{ComesBack, Part}
+use Rattle.file_calls.specs.eof_laws.list_laws.Members.{In}
 use Rattle.in_flight.specs.write_jobs.Jobs.{FilledView, JobView, loan_at}
 use Rattle.write_end.specs.write_jobs.Loans.{AreApart}
 use Rattle.write_end.specs.Blocks.{ComeHome}

@@ -2,12 +2,12 @@
 use Rattle.std.specs.Prelude.{◌≡◌, ◌≢◌, ◌+◌, ◌/◌, ◌++◌, ℕ, true, false, List, [], ◌∷◌, length, refl}
 use Rattle.std.proofs.Common.{arith, ap, ◌∙◌, sym, subst, inl, inr}
 use Rattle.std.proofs.lemmas.Bool.{cases_lt}
-use Rattle.eof_laws.specs.pm_model.Cells.{cell, is_lent}
+use Rattle.file_calls.specs.eof_laws.pm_model.Cells.{cell, is_lent}
 use Rattle.in_flight.specs.file_table.Files.{Files}
 use Rattle.in_flight.specs.k_split_model.View.{View}
-use Rattle.eof_laws.specs.list_laws.Members.{In}
-use Rattle.eof_laws.specs.posix_types.declared.call.Mode.{Mode}
-use Rattle.eof_laws.specs.posix_tables.Open.{Tables}
+use Rattle.file_calls.specs.eof_laws.list_laws.Members.{In}
+use Rattle.file_calls.specs.eof_laws.posix_types.declared.call.Mode.{Mode}
+use Rattle.file_calls.specs.eof_laws.posix_tables.Open.{Tables}
 use Rattle.in_flight.specs.pm_model.Frames.{SameLent}
 use Rattle.in_flight.specs.pm_model.Powers.{is_on, Supply}
 use Rattle.in_flight.specs.posix_spec.Run.{Unfinished}

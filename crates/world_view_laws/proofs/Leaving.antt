@@ -1,22 +1,22 @@
 -- What the parts of a crash ask for, while blocks and lines are put back one after the other.
 use Rattle.std.specs.Prelude.{◌≡◌, ◌≢◌, ◌≤◌, ◌<◌, ◌+◌, ◌-◌, ◌*◌, ◌/◌, ◌%◌, ◌++◌, ℕ, suc, Bool, true, false, List, [], ◌∷◌, length, map, AllPairs, refl, if◌then◌else◌}
 use Rattle.std.proofs.Common.{arith, ap, ◌∙◌, sym, subst, inl, inr}
-use Rattle.eof_laws.specs.pm_model.declared.Cell.{Cell}
-use Rattle.eof_laws.specs.pm_model.Cells.{cell, is_lent}
-use Rattle.eof_laws.specs.pm_model.Parts.{Part}
+use Rattle.file_calls.specs.eof_laws.pm_model.declared.Cell.{Cell}
+use Rattle.file_calls.specs.eof_laws.pm_model.Cells.{cell, is_lent}
+use Rattle.file_calls.specs.eof_laws.pm_model.Parts.{Part}
 use Rattle.in_flight.specs.block_io.Overwrites.{IsInLines}
-use Rattle.eof_laws.specs.layout_model.declared.lines.Draft.{Draft}
-use Rattle.eof_laws.specs.layout_model.declared.lines.Kind.TheVariants.{Staging}
-use Rattle.eof_laws.specs.layout_model.Places.{Geometry, log_line}
+use Rattle.file_calls.specs.eof_laws.layout_model.declared.lines.Draft.{Draft}
+use Rattle.file_calls.specs.eof_laws.layout_model.declared.lines.Kind.TheVariants.{Staging}
+use Rattle.file_calls.specs.eof_laws.layout_model.Places.{Geometry, log_line}
 use Rattle.in_flight.specs.image_model.Volume.{inode, Volume}
 use Rattle.in_flight.specs.file_table.Files.{Files}
 use Rattle.in_flight.specs.k_split_model.View.{View}
 use Rattle.write_end.proofs.k_split_proofs.LogLaws.{data_beside}
 use Rattle.in_flight.specs.k_split.Laps.{IsLogWord}
 use Rattle.in_flight.specs.block_io.Lines.{AreFrom, LinesComeBack}
-use Rattle.eof_laws.specs.list_laws.Members.{In}
-use Rattle.eof_laws.specs.posix_types.declared.call.Who.{Who}
-use Rattle.eof_laws.specs.posix_tables.Open.{Tables}
+use Rattle.file_calls.specs.eof_laws.list_laws.Members.{In}
+use Rattle.file_calls.specs.eof_laws.posix_types.declared.call.Who.{Who}
+use Rattle.file_calls.specs.eof_laws.posix_tables.Open.{Tables}
 use Rattle.in_flight.specs.staging_files.Keeps.{Staged}
 use Rattle.in_flight.specs.live_model.Standing.{JobOut}
 use Rattle.in_flight.specs.write_jobs.Jobs.{blocks_of, FilledView, HoldWords, JobView}

@@ -2,17 +2,17 @@
 use Rattle.std.specs.Prelude.{◌≡◌, ◌≢◌, ◌≤◌, ◌+◌, ◌*◌, ◌/◌, ◌++◌, ℕ, Bool, true, false, List, [], ◌∷◌, length, map, Some, None, refl}
 use Rattle.std.proofs.Common.{arith, ap, ◌∙◌, sym, subst, inl, inr}
 use Rattle.std.proofs.Math.Path.{fun_ext}
-use Rattle.eof_laws.specs.pm_model.declared.Cell.{Cell}
-use Rattle.eof_laws.specs.pm_model.Cells.{cell, is_lent, IsCandidate}
-use Rattle.eof_laws.specs.pm_model.Words.{Words}
-use Rattle.eof_laws.specs.layout_model.Places.{Geometry, log_line}
+use Rattle.file_calls.specs.eof_laws.pm_model.declared.Cell.{Cell}
+use Rattle.file_calls.specs.eof_laws.pm_model.Cells.{cell, is_lent, IsCandidate}
+use Rattle.file_calls.specs.eof_laws.pm_model.Words.{Words}
+use Rattle.file_calls.specs.eof_laws.layout_model.Places.{Geometry, log_line}
 use Rattle.in_flight.specs.image_model.Honest.{IsHonest}
 use Rattle.in_flight.specs.image_model.Volume.{Volume}
 use Rattle.in_flight.specs.file_table.Files.{Files}
 use Rattle.in_flight.specs.k_split_model.View.{View}
 use Rattle.in_flight.specs.block_io.Lines.{LinesComeBack}
-use Rattle.eof_laws.specs.list_laws.Members.{In}
-use Rattle.eof_laws.specs.posix_tables.Open.{Tables}
+use Rattle.file_calls.specs.eof_laws.list_laws.Members.{In}
+use Rattle.file_calls.specs.eof_laws.posix_tables.Open.{Tables}
 use Rattle.in_flight.specs.posix_spec.Run.{Unfinished}
 use Rattle.in_flight.specs.posix_spec.Unfinished.{AreUnfinished}
 use Rattle.in_flight.specs.staging_files.Keeps.{Staged}

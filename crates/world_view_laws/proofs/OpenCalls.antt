@@ -4,11 +4,11 @@ use Rattle.std.proofs.Common.{arith, ap, ◌∙◌, sym, subst, inl, inr}
 use Rattle.std.proofs.lemmas.List.{append-nil, map-append}
 use Rattle.std.proofs.lemmas.List.Elements.{All-cons, All-nil}
 use Rattle.std.proofs.lemmas.List.Kept.{AllPairs-cons}
-use Rattle.eof_laws.specs.list_laws.Members.{In}
-use Rattle.eof_laws.specs.posix_types.declared.call.Who.{Who}
-use Rattle.eof_laws.specs.posix_types.declared.item.Item.{Item}
+use Rattle.file_calls.specs.eof_laws.list_laws.Members.{In}
+use Rattle.file_calls.specs.eof_laws.posix_types.declared.call.Who.{Who}
+use Rattle.file_calls.specs.eof_laws.posix_types.declared.item.Item.{Item}
 use Rattle.in_flight.specs.posix_types.Scripts.{Scripts}
-use Rattle.eof_laws.specs.posix_tables.Open.{same_who}
+use Rattle.file_calls.specs.eof_laws.posix_tables.Open.{same_who}
 use Rattle.in_flight.specs.posix_laws.UnfinishedLaws.{AreUnfinished-begun}
 use Rattle.in_flight.specs.posix_spec.Run.{Unfinished}
 use Rattle.in_flight.specs.posix_spec.Scripted.{next_call}

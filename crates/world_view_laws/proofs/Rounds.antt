@@ -1,12 +1,12 @@
 -- A round of the World begins.
 use Rattle.std.specs.Prelude.{◌≡◌, ◌≤◌, ◌<◌, ◌+◌, ◌*◌, ◌^◌, ℕ, true, false, List, length, refl}
 use Rattle.std.proofs.Common.{arith, ap, ◌∙◌, sym, subst}
-use Rattle.eof_laws.specs.pm_model.declared.Cell.{Cell}
-use Rattle.eof_laws.specs.pm_model.declared.Cell.TheVariants.{Lent, Marked, Single, Two}
-use Rattle.eof_laws.specs.pm_model.Cells.{cell, is_single, newest}
-use Rattle.eof_laws.specs.pm_model.Images.{words_of}
-use Rattle.eof_laws.specs.pm_model.Parts.{Part}
-use Rattle.eof_laws.specs.layout_model.Places.{Geometry, log_line}
+use Rattle.file_calls.specs.eof_laws.pm_model.declared.Cell.{Cell}
+use Rattle.file_calls.specs.eof_laws.pm_model.declared.Cell.TheVariants.{Lent, Marked, Single, Two}
+use Rattle.file_calls.specs.eof_laws.pm_model.Cells.{cell, is_single, newest}
+use Rattle.file_calls.specs.eof_laws.pm_model.Images.{words_of}
+use Rattle.file_calls.specs.eof_laws.pm_model.Parts.{Part}
+use Rattle.file_calls.specs.eof_laws.layout_model.Places.{Geometry, log_line}
 use Rattle.in_flight.specs.image_model.Volume.{Volume}
 use Rattle.file_calls.specs.eof_laws.Ends.{FilesEnd}
 use Rattle.in_flight.specs.file_table.Files.{Files}
@@ -16,7 +16,7 @@ use Rattle.in_flight.specs.k_split.Laps.{HasSingleLog, IsLogWord}
 use Rattle.in_flight.specs.k_split.LogLines.{AreLogLines}
 use Rattle.in_flight.specs.k_split.Order.{IsInOrder}
 use Rattle.in_flight.specs.block_io.Lines.{AreFrom, line_at, LinesGoOut}
-use Rattle.eof_laws.specs.posix_tables.Open.{Tables}
+use Rattle.file_calls.specs.eof_laws.posix_tables.Open.{Tables}
 use Rattle.in_flight.specs.staging_files.Keeps.{Staged}
 use Rattle.in_flight.specs.live_model.Standing.{StandsAt}
 use Rattle.world_view_laws.proofs.Ending.{no_both}

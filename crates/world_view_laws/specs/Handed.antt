@@ -1,7 +1,7 @@
 -- The loans of all jobs that a crash is given, and loans of which no two are of one block.
 use Rattle.std.specs.Prelude.{◌≢◌, List, [], ◌∷◌, ◌++◌}
-use Rattle.eof_laws.specs.pm_model.Parts.{Part}
-use Rattle.eof_laws.specs.list_laws.Members.{In}
+use Rattle.file_calls.specs.eof_laws.pm_model.Parts.{Part}
+use Rattle.file_calls.specs.eof_laws.list_laws.Members.{In}
 use Rattle.in_flight.specs.write_jobs.Jobs.{FilledView, JobView}
 
 abbrev pub loans_out : List JobView → List Part

@@ -1,7 +1,7 @@
 -- What jobs leave that end after the power went, as one statement.
 use Rattle.std.specs.Prelude.{◌≢◌, ℕ}
-use Rattle.eof_laws.specs.pm_model.Powers.{Supply}
-use Rattle.eof_laws.specs.list_laws.Members.{In}
+use Rattle.file_calls.specs.eof_laws.pm_model.Powers.{Supply}
+use Rattle.file_calls.specs.eof_laws.list_laws.Members.{In}
 use Rattle.in_flight.specs.live_model.Standing.{JobOut}
 use Rattle.write_end.specs.Blocks.{AreBlocksHome}
 use Rattle.world_view_laws.specs.Jobs.{LosesFinish}

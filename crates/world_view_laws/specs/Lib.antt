@@ -9,14 +9,14 @@ pub mod Acts
 pub mod Starts
 pub mod Handed
 pub mod Laws
-pub use Rattle.eof_laws.specs.block_io as block_io
+pub use Rattle.file_calls.specs.eof_laws.block_io as block_io
 pub use Rattle.write_end.specs.write_jobs as write_jobs
 pub use Rattle.write_end.specs as write_end
 pub use Rattle.write_end.specs.in_place.write_plan as write_plan
 pub use Rattle.in_flight.specs.crash_spec
-pub use Rattle.eof_laws.specs.image_model
+pub use Rattle.file_calls.specs.eof_laws.image_model
 pub use Rattle.file_calls.specs.eof_laws
-pub use Rattle.eof_laws.specs.file_table
+pub use Rattle.file_calls.specs.eof_laws.file_table
 pub use Rattle.file_calls.specs as file_calls
 pub use Rattle.file_publish.specs as file_publish
 pub use Rattle.in_flight.specs.image_layout as image_layout
@@ -27,7 +27,7 @@ pub use Rattle.in_flight.specs.list_laws
 pub use Rattle.in_flight.specs.live_model
 pub use Rattle.file_publish.specs.log_checkpoint
 pub use Rattle.write_end.specs.oplog_entry
-pub use Rattle.eof_laws.specs.pm_model
+pub use Rattle.file_calls.specs.eof_laws.pm_model
 pub use Rattle.in_flight.specs.posix_laws
 pub use Rattle.in_flight.specs.posix_spec
 pub use Rattle.in_flight.specs.posix_types

@@ -17,7 +17,7 @@ pub use crate::views::{
     finish_write, fsync, gather, give_up_write, keeper, move_by, next_in, place_front, place_of,
     run_call, settle_blocks, take_job, waits_for, what_stands_may_be_published,
 };
-pub use eof_laws::{
+pub use file_calls::{
     Commit, FileTable, FilledJob, Geometry, Job, KSplit, Staging,
     finished_writes_end_with_their_files, put_lines,
 };

@@ -9,13 +9,13 @@ use Rattle.in_place.specs.k_split_laws.posix_types.declared.item.Item.{Item}
 use Rattle.in_place.specs.k_split_laws.posix_types.declared.tree.TreeEntry.{TreeEntry}
 use Rattle.in_place.specs.k_split_laws.posix_spec.Run.{after_call, Unfinished, run}
 use Rattle.in_place.specs.k_split_laws.posix_spec.State.{State}
-use Rattle.write_jobs.specs.world_image_laws.crash_spec.Permitted.{Permitted}
-use Rattle.write_jobs.specs.world_image_laws.crash_spec.Strict.{StrictFrom}
-use Rattle.write_jobs.specs.world_image_laws.crash_spec.Sync.{SyncFrom}
-use Rattle.write_jobs.specs.world_image_laws.Back.{calls_in_log}
-use Rattle.write_jobs.specs.world_image_laws.Promised.{IsKept}
-use Rattle.write_plan.specs.eof_laws.log_checkpoint.world_model.Jobs.{Job, unfinished_call}
-use Rattle.live_model.specs.Standing.{AreJobsOf, JobOut}
+use Rattle.in_place.specs.live_model.write_jobs.world_image_laws.crash_spec.Permitted.{Permitted}
+use Rattle.in_place.specs.live_model.write_jobs.world_image_laws.crash_spec.Strict.{StrictFrom}
+use Rattle.in_place.specs.live_model.write_jobs.world_image_laws.crash_spec.Sync.{SyncFrom}
+use Rattle.in_place.specs.live_model.write_jobs.world_image_laws.Back.{calls_in_log}
+use Rattle.in_place.specs.live_model.write_jobs.world_image_laws.Promised.{IsKept}
+use Rattle.in_place.specs.write_plan.eof_laws.log_checkpoint.world_model.Jobs.{Job, unfinished_call}
+use Rattle.in_place.specs.live_model.Standing.{AreJobsOf, JobOut}
 use Rattle.write_end.specs.Ends.{begun_by}
 
 -- The test holds for each job that has a slot.

@@ -4,7 +4,7 @@ use Rattle.oplog_entry.specs.pm_model.ImageLaws.{IsImage-words_of}
 use Rattle.oplog_entry.specs.pm_model.Images.{words_of}
 use Rattle.oplog_entry.specs.pm_model.Parts.{Part}
 use Rattle.oplog_entry.specs.pm_model.Words.{Words}
-use Rattle.write_jobs.specs.Loans.{AreApart}
+use Rattle.in_place.specs.live_model.write_jobs.Loans.{AreApart}
 use Rattle.oplog_entry.specs.layout_model.declared.lines.Draft.{Draft}
 use Rattle.oplog_entry.specs.layout_model.declared.lines.Kind.TheVariants.{Staging}
 use Rattle.oplog_entry.specs.layout_model.Journal.{journaled}
@@ -12,11 +12,11 @@ use Rattle.oplog_entry.specs.image_model.Volume.{inode, Volume}
 use Rattle.in_place.specs.k_split_laws.list_laws.Members.{In}
 use Rattle.in_place.specs.k_split_laws.posix_spec.State.{State}
 use Rattle.in_place.specs.k_split_laws.volume_laws.OwnerLaws.{IsOnePlace, one_owner}
-use Rattle.write_plan.specs.eof_laws.log_checkpoint.world_model.Lent.{once_named}
-use Rattle.write_plan.specs.eof_laws.log_checkpoint.world_model.Jobs.{AreApartJobs, IsStagedIn, Job, JobsStand, JobStands, live_claims, staged_block}
-use Rattle.write_plan.specs.eof_laws.log_checkpoint.world_model.Stands.{IsSane}
-use Rattle.live_model.specs.Standing.{AreJobsOf, HasItsBlocks, JobOut}
-use Rattle.write_jobs.specs.Jobs.{blocks_of, FilledView, loan_at}
+use Rattle.in_place.specs.write_plan.eof_laws.log_checkpoint.world_model.Lent.{once_named}
+use Rattle.in_place.specs.write_plan.eof_laws.log_checkpoint.world_model.Jobs.{AreApartJobs, IsStagedIn, Job, JobsStand, JobStands, live_claims, staged_block}
+use Rattle.in_place.specs.write_plan.eof_laws.log_checkpoint.world_model.Stands.{IsSane}
+use Rattle.in_place.specs.live_model.Standing.{AreJobsOf, HasItsBlocks, JobOut}
+use Rattle.in_place.specs.live_model.write_jobs.Jobs.{blocks_of, FilledView, loan_at}
 use Rattle.write_end.specs.LosingLaws.{HasLoansApart, SharesNone, StandsApart}
 use Rattle.write_end.proofs.Jobs.{none_common, staged_of}
 use Rattle.write_end.proofs.LosingPending.{apart_of, IsJobOf, job_of, loans_of_entry, places_of_entry, staging_below, stands_of}

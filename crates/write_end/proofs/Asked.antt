@@ -4,16 +4,16 @@ use Rattle.std.proofs.lemmas.Bool.Decides.{nat_tests}
 use Rattle.layout_model.specs.declared.lines.Draft.{Draft}
 use Rattle.layout_model.specs.Entries.{is_draft}
 use Rattle.layout_model.specs.block_counts.declared.TheConstants.{LONGEST_FILE}
-use Rattle.write_plan.specs.file_table.Files.{ChangesFile, Files, runs_in, spare_in}
-use Rattle.write_jobs.specs.world_image_laws.k_split_model.View.{View}
-use Rattle.write_jobs.specs.k_split.Order.{IsInOrder}
-use Rattle.live_model.specs.Overlays.{run_of}
+use Rattle.in_place.specs.write_plan.file_table.Files.{ChangesFile, Files, runs_in, spare_in}
+use Rattle.in_place.specs.live_model.write_jobs.world_image_laws.k_split_model.View.{View}
+use Rattle.in_place.specs.live_model.write_jobs.k_split.Order.{IsInOrder}
+use Rattle.in_place.specs.live_model.Overlays.{run_of}
 use Rattle.posix_types.specs.declared.call.Call.{Call}
 use Rattle.posix_types.specs.declared.call.Who.{Who}
-use Rattle.write_plan.specs.posix_tables.Open.{Tables}
-use Rattle.write_jobs.specs.Jobs.{FilledView, HoldWords}
-use Rattle.write_jobs.specs.Loans.{ComeBack}
-use Rattle.write_plan.specs.Asks.{CanMoveBy, moved_by}
+use Rattle.in_place.specs.write_plan.posix_tables.Open.{Tables}
+use Rattle.in_place.specs.live_model.write_jobs.Jobs.{FilledView, HoldWords}
+use Rattle.in_place.specs.live_model.write_jobs.Loans.{ComeBack}
+use Rattle.in_place.specs.write_plan.Asks.{CanMoveBy, moved_by}
 use Rattle.write_end.specs.Ends.{CanFinish, HasJob, HasWrite}
 use Rattle.write_end.specs.Landing.{HasLanded}
 use Rattle.write_end.proofs.Ending.{below, draft_is, split, stood}

@@ -22,19 +22,19 @@ use Rattle.in_place.specs.k_split_laws.posix_spec.State.{State}
 use Rattle.in_place.specs.k_split_laws.posix_types.declared.item.Item.{Item}
 use Rattle.in_place.specs.k_split_laws.volume_laws.ImageLaws.{journaled-other}
 use Rattle.in_place.specs.k_split_laws.volume_laws.LineWords.{data_word}
-use Rattle.write_jobs.specs.world_image_laws.Images.{StandsFor}
-use Rattle.write_jobs.specs.world_image_laws.Promised.{IsKept, KeepsPromise}
-use Rattle.write_jobs.specs.world_image_laws.Back.{calls_in_log, IsPutBack}
-use Rattle.write_jobs.specs.world_image_laws.InLog.{kept_of_all}
-use Rattle.write_jobs.specs.world_image_laws.Running.{promise_now}
-use Rattle.write_plan.specs.eof_laws.log_checkpoint.world_model.Lines.{AreJobLines, AreLinesOut, IsJobLine, IsTaken}
-use Rattle.write_plan.specs.eof_laws.log_checkpoint.world_model.JobLaws.{HoldsWhole-found}
-use Rattle.write_plan.specs.eof_laws.log_checkpoint.world_model.Jobs.{HoldsWhole, IsStagedIn, Job, live_claims, staged_block}
-use Rattle.write_plan.specs.eof_laws.log_checkpoint.world_model.Shown.{AreFilled}
-use Rattle.live_model.specs.Standing.{AreJobsOf, IsSpellable, Kept, JobOut}
+use Rattle.in_place.specs.live_model.write_jobs.world_image_laws.Images.{StandsFor}
+use Rattle.in_place.specs.live_model.write_jobs.world_image_laws.Promised.{IsKept, KeepsPromise}
+use Rattle.in_place.specs.live_model.write_jobs.world_image_laws.Back.{calls_in_log, IsPutBack}
+use Rattle.in_place.specs.live_model.write_jobs.world_image_laws.InLog.{kept_of_all}
+use Rattle.in_place.specs.live_model.write_jobs.world_image_laws.Running.{promise_now}
+use Rattle.in_place.specs.write_plan.eof_laws.log_checkpoint.world_model.Lines.{AreJobLines, AreLinesOut, IsJobLine, IsTaken}
+use Rattle.in_place.specs.write_plan.eof_laws.log_checkpoint.world_model.JobLaws.{HoldsWhole-found}
+use Rattle.in_place.specs.write_plan.eof_laws.log_checkpoint.world_model.Jobs.{HoldsWhole, IsStagedIn, Job, live_claims, staged_block}
+use Rattle.in_place.specs.write_plan.eof_laws.log_checkpoint.world_model.Shown.{AreFilled}
+use Rattle.in_place.specs.live_model.Standing.{AreJobsOf, IsSpellable, Kept, JobOut}
 use Rattle.write_end.proofs.LosingPending.{IsJobOf, loans_of_entry, places_of_entry}
 use Rattle.write_end.specs.Ends.{begun_by, IsOut}
-use Rattle.write_jobs.specs.Jobs.{FilledView, loan_at}
+use Rattle.in_place.specs.live_model.write_jobs.Jobs.{FilledView, loan_at}
 use Rattle.write_end.specs.Blocks.{AreBlocksOut, ComeHome}
 use Rattle.write_end.specs.CrashesLaws.{AreHandedIn, KeepsCrashed, KeepsHome, LinesAreHome, MissesNone}
 use Rattle.write_end.specs.Lines.{AreCrashLines}

@@ -15,8 +15,8 @@ use Rattle.oplog_entry.specs.layout_model.Journal.{IsSound, journaled}
 use Rattle.oplog_entry.specs.layout_model.Places.{Geometry}
 use Rattle.oplog_entry.specs.image_model.Content.{disk_of}
 use Rattle.oplog_entry.specs.image_model.Volume.{Volume}
-use Rattle.write_plan.specs.extent_model.Extents.{is_within}
-use Rattle.write_plan.specs.file_table.Files.{Files}
+use Rattle.in_place.specs.write_plan.extent_model.Extents.{is_within}
+use Rattle.in_place.specs.write_plan.file_table.Files.{Files}
 use Rattle.in_place.specs.k_split_laws.k_split_model.View.{View}
 use Rattle.in_place.specs.k_split_laws.list_laws.Members.{In, pushed-In}
 use Rattle.in_place.specs.k_split_laws.posix_types.declared.call.Call.{Call}
@@ -25,21 +25,21 @@ use Rattle.in_place.specs.k_split_laws.posix_types.declared.item.Item.{Item}
 use Rattle.in_place.specs.k_split_laws.posix_tables.Open.{Tables}
 use Rattle.in_place.specs.k_split_laws.posix_spec.Run.{run}
 use Rattle.in_place.specs.k_split_laws.posix_spec.State.{State}
-use Rattle.write_plan.specs.eof_laws.log_checkpoint.posix_laws.Puts.{PutsWhole}
-use Rattle.write_jobs.specs.world_image_laws.Amid.{among_own}
-use Rattle.write_jobs.specs.world_image_laws.Back.{calls_among, calls_in_log, IsPutBack}
-use Rattle.write_jobs.specs.world_image_laws.Promised.{IsKept}
-use Rattle.write_jobs.specs.world_image_laws.Settings.{setting_run}
-use Rattle.write_jobs.specs.world_image_laws.world_model.JobLaws.{live_claims-more, live_used}
-use Rattle.write_jobs.specs.world_image_laws.world_model.Jobs.{HoldsWhole, IsStagedIn, Job, JobStands, live_claims, staged_block, unfinished_call}
-use Rattle.write_jobs.specs.world_image_laws.world_model.Landed.{disk-beside}
-use Rattle.write_jobs.specs.world_image_laws.world_model.Lent.{unused_staged}
-use Rattle.write_jobs.specs.world_image_laws.world_model.Lines.{AreJobLines, IsClaimedLine, IsTaken}
-use Rattle.write_jobs.specs.world_image_laws.world_model.Shown.{AreFilled}
-use Rattle.write_jobs.specs.world_image_laws.world_model.Stands.{number}
-use Rattle.live_model.specs.Flying.{IsOut as IsOutWord}
-use Rattle.live_model.specs.Standing.{AreJobsOf, AreLinesLent}
-use Rattle.write_jobs.specs.Jobs.{FilledView}
+use Rattle.in_place.specs.write_plan.eof_laws.log_checkpoint.posix_laws.Puts.{PutsWhole}
+use Rattle.in_place.specs.live_model.write_jobs.world_image_laws.Amid.{among_own}
+use Rattle.in_place.specs.live_model.write_jobs.world_image_laws.Back.{calls_among, calls_in_log, IsPutBack}
+use Rattle.in_place.specs.live_model.write_jobs.world_image_laws.Promised.{IsKept}
+use Rattle.in_place.specs.live_model.write_jobs.world_image_laws.Settings.{setting_run}
+use Rattle.in_place.specs.live_model.write_jobs.world_image_laws.world_model.JobLaws.{live_claims-more, live_used}
+use Rattle.in_place.specs.live_model.write_jobs.world_image_laws.world_model.Jobs.{HoldsWhole, IsStagedIn, Job, JobStands, live_claims, staged_block, unfinished_call}
+use Rattle.in_place.specs.live_model.write_jobs.world_image_laws.world_model.Landed.{disk-beside}
+use Rattle.in_place.specs.live_model.write_jobs.world_image_laws.world_model.Lent.{unused_staged}
+use Rattle.in_place.specs.live_model.write_jobs.world_image_laws.world_model.Lines.{AreJobLines, IsClaimedLine, IsTaken}
+use Rattle.in_place.specs.live_model.write_jobs.world_image_laws.world_model.Shown.{AreFilled}
+use Rattle.in_place.specs.live_model.write_jobs.world_image_laws.world_model.Stands.{number}
+use Rattle.in_place.specs.live_model.Flying.{IsOut as IsOutWord}
+use Rattle.in_place.specs.live_model.Standing.{AreJobsOf, AreLinesLent}
+use Rattle.in_place.specs.live_model.write_jobs.Jobs.{FilledView}
 use Rattle.in_place.specs.k_split_laws.k_journal.declared.outcomes.Commit.{Commit}
 use Rattle.in_place.specs.k_split_laws.Left.{IsLeftOf}
 use Rattle.in_place.specs.Placing.{LosesPlacing, SameBeside}

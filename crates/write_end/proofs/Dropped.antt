@@ -10,11 +10,11 @@ use Rattle.in_place.specs.k_split_laws.list_laws.Members.{In}
 use Rattle.in_place.specs.k_split_laws.posix_types.declared.item.Item.{Item}
 use Rattle.in_place.specs.k_split_laws.posix_spec.Run.{Unfinished}
 use Rattle.in_place.specs.k_split_laws.posix_spec.State.{State}
-use Rattle.write_jobs.specs.world_image_laws.Back.{IsPutBack, jobs_in_log}
-use Rattle.write_jobs.specs.world_image_laws.Promised.{IsKept}
-use Rattle.write_plan.specs.eof_laws.log_checkpoint.world_model.Jobs.{unfinished_call, Job}
-use Rattle.write_plan.specs.eof_laws.log_checkpoint.world_model.Lines.{AreJobLines, IsTaken}
-use Rattle.write_plan.specs.eof_laws.log_checkpoint.world_model.Shown.{AreFilled}
+use Rattle.in_place.specs.live_model.write_jobs.world_image_laws.Back.{IsPutBack, jobs_in_log}
+use Rattle.in_place.specs.live_model.write_jobs.world_image_laws.Promised.{IsKept}
+use Rattle.in_place.specs.write_plan.eof_laws.log_checkpoint.world_model.Jobs.{unfinished_call, Job}
+use Rattle.in_place.specs.write_plan.eof_laws.log_checkpoint.world_model.Lines.{AreJobLines, IsTaken}
+use Rattle.in_place.specs.write_plan.eof_laws.log_checkpoint.world_model.Shown.{AreFilled}
 use Rattle.write_end.specs.Lost.{HoldLost, IsKeptLost}
 use Rattle.std.specs.Prelude.{map}
 

@@ -10,37 +10,37 @@ use Rattle.oplog_entry.specs.pm_model.Cells.{cell, is_lent, IsCandidate, unmarke
 use Rattle.oplog_entry.specs.pm_model.Images.{IsImage}
 use Rattle.oplog_entry.specs.pm_model.Parts.{put_back}
 use Rattle.oplog_entry.specs.pm_model.Words.{Words}
-use Rattle.write_jobs.proofs.SettleLaws.{puts_back}
+use Rattle.in_place.proofs.live_model_proofs.write_jobs_proofs.SettleLaws.{puts_back}
 use Rattle.oplog_entry.specs.layout_model.declared.lines.Draft.{Draft}
 use Rattle.oplog_entry.specs.layout_model.Journal.{journaled}
 use Rattle.oplog_entry.specs.layout_model.PlaceLaws.{behind_log-not_journaled, behind_log-words}
 use Rattle.oplog_entry.specs.layout_model.Places.{log_line}
 use Rattle.oplog_entry.specs.image_model.Honest.{IsHonest}
 use Rattle.oplog_entry.specs.image_model.Volume.{Volume}
-use Rattle.live_model.specs.Flying.{IsOut as IsOutWord}
-use Rattle.write_jobs.specs.Blocks.{ArePutBack, SpellWhole}
+use Rattle.in_place.specs.live_model.Flying.{IsOut as IsOutWord}
+use Rattle.in_place.specs.live_model.write_jobs.Blocks.{ArePutBack, SpellWhole}
 use Rattle.in_place.specs.k_split_laws.list_laws.Members.{In, pushed-In}
-use Rattle.write_plan.specs.eof_laws.log_checkpoint.posix_laws.Puts.{PutsWhole}
+use Rattle.in_place.specs.write_plan.eof_laws.log_checkpoint.posix_laws.Puts.{PutsWhole}
 use Rattle.in_place.specs.k_split_laws.posix_spec.Run.{Unfinished, run}
 use Rattle.in_place.specs.k_split_laws.posix_types.declared.call.Call.{Call}
 use Rattle.in_place.specs.k_split_laws.posix_types.declared.call.Who.{Who}
 use Rattle.in_place.specs.k_split_laws.posix_types.declared.item.Item.{Item}
-use Rattle.write_plan.specs.posix_tables.Open.{same_who}
+use Rattle.in_place.specs.write_plan.posix_tables.Open.{same_who}
 use Rattle.in_place.specs.k_split_laws.posix_spec.State.{State}
 use Rattle.in_place.specs.k_split_laws.volume_laws.ImageLaws.{journaled-other}
 use Rattle.in_place.specs.k_split_laws.volume_laws.LineWords.{data_word}
 use Rattle.in_place.proofs.k_split_laws_proofs.k_split_proofs.LogLaws.{data_beside}
 use Rattle.in_place.specs.k_split_laws.k_split.Laps.{IsLogWord}
-use Rattle.write_plan.specs.eof_laws.log_checkpoint.world_write_laws.JobSteps.{Valid-front}
-use Rattle.write_plan.specs.eof_laws.log_checkpoint.world_model.Lines.{AreLinesOut}
-use Rattle.write_plan.specs.eof_laws.log_checkpoint.world_model.JobLaws.{HoldsWhole-found, Valid-dropped}
-use Rattle.write_plan.specs.eof_laws.log_checkpoint.world_model.Jobs.{AreApartJobs, HoldsWhole, IsStagedIn, Job, JobStands, live_claims, staged_block, Valid}
-use Rattle.write_plan.specs.eof_laws.log_checkpoint.world_model.Promised.{AreWhole}
-use Rattle.live_model.specs.Standing.{AreLinesLent, AreOfTwoThreads, Kept, JobOut}
-use Rattle.write_plan.specs.eof_laws.log_checkpoint.world_step_laws.Worlds.{IsWorld}
+use Rattle.in_place.specs.write_plan.eof_laws.log_checkpoint.world_write_laws.JobSteps.{Valid-front}
+use Rattle.in_place.specs.write_plan.eof_laws.log_checkpoint.world_model.Lines.{AreLinesOut}
+use Rattle.in_place.specs.write_plan.eof_laws.log_checkpoint.world_model.JobLaws.{HoldsWhole-found, Valid-dropped}
+use Rattle.in_place.specs.write_plan.eof_laws.log_checkpoint.world_model.Jobs.{AreApartJobs, HoldsWhole, IsStagedIn, Job, JobStands, live_claims, staged_block, Valid}
+use Rattle.in_place.specs.write_plan.eof_laws.log_checkpoint.world_model.Promised.{AreWhole}
+use Rattle.in_place.specs.live_model.Standing.{AreLinesLent, AreOfTwoThreads, Kept, JobOut}
+use Rattle.in_place.specs.write_plan.eof_laws.log_checkpoint.world_step_laws.Worlds.{IsWorld}
 use Rattle.write_end.proofs.LosingPending.{IsSplit, apart_of, left_there, loans_of_entry, places_of_entry, split_in, split_of}
 use Rattle.write_end.specs.Ends.{IsOut}
-use Rattle.write_jobs.specs.Jobs.{FilledView, loan_at}
+use Rattle.in_place.specs.live_model.write_jobs.Jobs.{FilledView, loan_at}
 use Rattle.write_end.specs.Blocks.{AreBlocksHome, AreHome}
 use Rattle.write_end.specs.LosingLaws.{claimed_by, ComesHome, ComesHomeAlone, FinishesLost, GivesUpLost, without_job}
 use Rattle.write_end.specs.Lost.{HoldLost, IsKeptLost, IsLostJob, IsLostWith}

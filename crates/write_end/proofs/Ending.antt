@@ -4,35 +4,35 @@ use Rattle.std.specs.Prelude.{slice_index}
 use Rattle.std.proofs.lemmas.Bool.{cases_lt}
 use Rattle.std.proofs.lemmas.List.{get_or_past, length-map}
 use Rattle.std.proofs.lemmas.Option.{same_Some}
-use Rattle.write_plan.specs.pm_model.declared.Cell.{Cell}
-use Rattle.write_plan.specs.pm_model.Cells.{cell, is_lent}
-use Rattle.write_plan.specs.pm_model.ImageLaws.{IsImage-words_of}
-use Rattle.write_plan.specs.pm_model.Images.{words_of}
-use Rattle.write_plan.specs.pm_model.Parts.{Part}
-use Rattle.write_plan.specs.pm_model.Words.{Words}
-use Rattle.write_plan.specs.layout_model.Journal.{journaled}
+use Rattle.in_place.specs.write_plan.pm_model.declared.Cell.{Cell}
+use Rattle.in_place.specs.write_plan.pm_model.Cells.{cell, is_lent}
+use Rattle.in_place.specs.write_plan.pm_model.ImageLaws.{IsImage-words_of}
+use Rattle.in_place.specs.write_plan.pm_model.Images.{words_of}
+use Rattle.in_place.specs.write_plan.pm_model.Parts.{Part}
+use Rattle.in_place.specs.write_plan.pm_model.Words.{Words}
+use Rattle.in_place.specs.write_plan.layout_model.Journal.{journaled}
 use Rattle.layout_model.specs.declared.lines.Draft.{Draft}
 use Rattle.layout_model.specs.declared.lines.Kind.TheVariants.{File, Staging}
-use Rattle.write_jobs.specs.world_image_laws.image_model.Volume.{free_inode, inode, Volume}
-use Rattle.write_jobs.specs.world_image_laws.k_split_model.View.{View}
-use Rattle.write_plan.specs.list_laws.Members.{In}
+use Rattle.in_place.specs.live_model.write_jobs.world_image_laws.image_model.Volume.{free_inode, inode, Volume}
+use Rattle.in_place.specs.live_model.write_jobs.world_image_laws.k_split_model.View.{View}
+use Rattle.in_place.specs.write_plan.list_laws.Members.{In}
 use Rattle.posix_types.specs.declared.call.Call.{Call}
 use Rattle.posix_types.specs.declared.call.Who.{Who}
-use Rattle.write_plan.specs.posix_laws.Puts.{PutsWhole}
-use Rattle.write_jobs.specs.world_image_laws.volume_laws.OwnerLaws.{IsOnePlace, one_owner}
-use Rattle.write_jobs.specs.world_write_laws.JobSteps.{Valid-front}
-use Rattle.write_jobs.specs.world_image_laws.world_model.JobLaws.{live_file, live_used}
-use Rattle.write_jobs.specs.world_image_laws.world_model.Lent.{once_named}
-use Rattle.write_jobs.specs.world_image_laws.world_model.TreeRules.{used_below}
-use Rattle.write_jobs.specs.world_image_laws.world_model.Jobs.{Job, JobStands, live_claims, staged_block, Valid}
-use Rattle.write_jobs.specs.world_image_laws.world_model.Stands.{IsSane, number}
-use Rattle.write_jobs.specs.world_image_laws.world_step_laws.Worlds.{IsWorld}
-use Rattle.write_jobs.specs.Jobs.{blocks_of, FilledView, loan_at}
-use Rattle.write_jobs.specs.Loans.{AreApart, ComeBack}
-use Rattle.write_jobs.proofs.SettleLaws.{puts_back}
-use Rattle.live_model.specs.Flying.{IsFlying}
-use Rattle.write_jobs.specs.Blocks.{AreOut, ArePutBack, SpellWhole}
-use Rattle.live_model.specs.Standing.{file_state, HasItsBlocks, JobOut}
+use Rattle.in_place.specs.write_plan.posix_laws.Puts.{PutsWhole}
+use Rattle.in_place.specs.live_model.write_jobs.world_image_laws.volume_laws.OwnerLaws.{IsOnePlace, one_owner}
+use Rattle.in_place.specs.live_model.write_jobs.world_write_laws.JobSteps.{Valid-front}
+use Rattle.in_place.specs.live_model.write_jobs.world_image_laws.world_model.JobLaws.{live_file, live_used}
+use Rattle.in_place.specs.live_model.write_jobs.world_image_laws.world_model.Lent.{once_named}
+use Rattle.in_place.specs.live_model.write_jobs.world_image_laws.world_model.TreeRules.{used_below}
+use Rattle.in_place.specs.live_model.write_jobs.world_image_laws.world_model.Jobs.{Job, JobStands, live_claims, staged_block, Valid}
+use Rattle.in_place.specs.live_model.write_jobs.world_image_laws.world_model.Stands.{IsSane, number}
+use Rattle.in_place.specs.live_model.write_jobs.world_image_laws.world_step_laws.Worlds.{IsWorld}
+use Rattle.in_place.specs.live_model.write_jobs.Jobs.{blocks_of, FilledView, loan_at}
+use Rattle.in_place.specs.live_model.write_jobs.Loans.{AreApart, ComeBack}
+use Rattle.in_place.proofs.live_model_proofs.write_jobs_proofs.SettleLaws.{puts_back}
+use Rattle.in_place.specs.live_model.Flying.{IsFlying}
+use Rattle.in_place.specs.live_model.write_jobs.Blocks.{AreOut, ArePutBack, SpellWhole}
+use Rattle.in_place.specs.live_model.Standing.{file_state, HasItsBlocks, JobOut}
 use Rattle.write_end.specs.Ends.{HasJob}
 use Rattle.write_end.proofs.EndsPending.{IsSplit, split_of}
 

@@ -1,17 +1,17 @@
 -- The job that ends among those that are out.
 use Rattle.std.proofs.Common.{◌≡◌, ◌<◌, ◌++◌, ◌∷◌, [], ℕ, zero, suc, Bool, true, false, not, cond, List, length, refl, arith, ap, ◌∙◌, sym, subst, inl, inr}
 use Rattle.std.specs.Prelude.{AllPairs, slice_index_or}
-use Rattle.write_plan.specs.list_laws.Members.{In}
+use Rattle.in_place.specs.write_plan.list_laws.Members.{In}
 use Rattle.posix_types.specs.declared.call.Who.{Who}
-use Rattle.write_plan.specs.commute_laws.Handles.{same_who-sym}
-use Rattle.write_plan.specs.posix_tables.Open.{same_who}
-use Rattle.write_plan.specs.pm_model.Words.{Words}
+use Rattle.in_place.specs.write_plan.commute_laws.Handles.{same_who-sym}
+use Rattle.in_place.specs.write_plan.posix_tables.Open.{same_who}
+use Rattle.in_place.specs.write_plan.pm_model.Words.{Words}
 use Rattle.layout_model.specs.declared.lines.Draft.{Draft}
-use Rattle.write_jobs.specs.world_image_laws.image_model.Volume.{Volume}
-use Rattle.write_plan.specs.posix_spec.State.{State}
-use Rattle.write_jobs.specs.world_image_laws.world_model.Jobs.{ApartFrom, AreApartJobs, Job, JobsStand, JobStands}
-use Rattle.live_model.specs.Standing.{AreJobsOf, AreOfTwoThreads, JobOut}
-use Rattle.live_model.specs.Jobs.{without}
+use Rattle.in_place.specs.live_model.write_jobs.world_image_laws.image_model.Volume.{Volume}
+use Rattle.in_place.specs.write_plan.posix_spec.State.{State}
+use Rattle.in_place.specs.live_model.write_jobs.world_image_laws.world_model.Jobs.{ApartFrom, AreApartJobs, Job, JobsStand, JobStands}
+use Rattle.in_place.specs.live_model.Standing.{AreJobsOf, AreOfTwoThreads, JobOut}
+use Rattle.in_place.specs.live_model.Jobs.{without}
 
 -- the first one and those behind it
 two_of : (p : JobOut) (pending : List JobOut) (q : JobOut) → AllPairs AreOfTwoThreads (p ∷ pending) → In q pending → AreOfTwoThreads p q

@@ -4,51 +4,51 @@ use Rattle.std.specs.Prelude.{Contains, slice_index}
 use Rattle.std.proofs.lemmas.List.{length-append, length_push}
 use Rattle.std.proofs.lemmas.List.Kept.{AllPairs-filter}
 use Rattle.std.proofs.lemmas.Option.{same_Some}
-use Rattle.write_plan.specs.pm_model.declared.Cell.{Cell}
-use Rattle.write_plan.specs.pm_model.Cells.{cell, IsCandidate}
-use Rattle.write_plan.specs.pm_model.Images.{IsImage}
-use Rattle.write_plan.specs.pm_model.Words.{Words}
-use Rattle.write_plan.specs.layout_model.Journal.{journaled}
-use Rattle.write_plan.specs.layout_model.PlaceLaws.{behind_log-not_journaled, behind_log-words}
-use Rattle.write_plan.specs.layout_model.Places.{Geometry}
+use Rattle.in_place.specs.write_plan.pm_model.declared.Cell.{Cell}
+use Rattle.in_place.specs.write_plan.pm_model.Cells.{cell, IsCandidate}
+use Rattle.in_place.specs.write_plan.pm_model.Images.{IsImage}
+use Rattle.in_place.specs.write_plan.pm_model.Words.{Words}
+use Rattle.in_place.specs.write_plan.layout_model.Journal.{journaled}
+use Rattle.in_place.specs.write_plan.layout_model.PlaceLaws.{behind_log-not_journaled, behind_log-words}
+use Rattle.in_place.specs.write_plan.layout_model.Places.{Geometry}
 use Rattle.layout_model.specs.declared.lines.Draft.{Draft}
 use Rattle.layout_model.specs.declared.lines.Kind.{Kind}
 use Rattle.layout_model.specs.declared.lines.Kind.TheVariants.{Directory, File, Free, Staging}
-use Rattle.write_jobs.specs.world_image_laws.image_model.Live.{is_live}
-use Rattle.write_jobs.specs.world_image_laws.image_model.Volume.{inode, Volume}
-use Rattle.live_model.specs.posix_laws.Orders.{AreOrdered, AreOrdered-step_of}
-use Rattle.write_plan.specs.file_table.Files.{ChangesFile, Files, runs_in, size_in}
-use Rattle.write_jobs.specs.world_image_laws.k_split_model.View.{View}
-use Rattle.write_jobs.specs.k_split.Order.{IsInOrder}
-use Rattle.write_plan.specs.list_laws.Members.{In, pushed-In}
-use Rattle.write_plan.specs.open_files.Numbered.{numbered_as}
-use Rattle.live_model.specs.Overlays.{run_of}
+use Rattle.in_place.specs.live_model.write_jobs.world_image_laws.image_model.Live.{is_live}
+use Rattle.in_place.specs.live_model.write_jobs.world_image_laws.image_model.Volume.{inode, Volume}
+use Rattle.in_place.specs.live_model.posix_laws.Orders.{AreOrdered, AreOrdered-step_of}
+use Rattle.in_place.specs.write_plan.file_table.Files.{ChangesFile, Files, runs_in, size_in}
+use Rattle.in_place.specs.live_model.write_jobs.world_image_laws.k_split_model.View.{View}
+use Rattle.in_place.specs.live_model.write_jobs.k_split.Order.{IsInOrder}
+use Rattle.in_place.specs.write_plan.list_laws.Members.{In, pushed-In}
+use Rattle.in_place.specs.write_plan.open_files.Numbered.{numbered_as}
+use Rattle.in_place.specs.live_model.Overlays.{run_of}
 use Rattle.posix_types.specs.declared.call.Call.{Call}
 use Rattle.posix_types.specs.declared.call.Who.{Who}
-use Rattle.write_plan.specs.posix_tables.declared.nodes.Node.{Node}
-use Rattle.write_plan.specs.posix_tables.Nodes.{bytes_of, node_at}
-use Rattle.write_plan.specs.posix_tables.Open.{is_open, same_who, Tables}
-use Rattle.write_plan.specs.posix_laws.Puts.{put_bytes, PutsWhole}
-use Rattle.write_plan.specs.posix_spec.Run.{after_call, Unfinished}
-use Rattle.write_plan.specs.posix_spec.State.{alone, State, with_file}
-use Rattle.write_jobs.specs.world_model.crash_spec.Sync.{with_bytes}
-use Rattle.write_jobs.specs.world_image_laws.world_model.JobLaws.{acted, HoldsWhole-found, live_claims-more}
-use Rattle.write_jobs.specs.world_image_laws.world_model.TreeRules.{used_below}
-use Rattle.write_jobs.specs.world_image_laws.world_model.Jobs.{HoldsWhole, live_claims, staged_block, unfinished_call}
-use Rattle.write_jobs.specs.world_image_laws.world_model.Stands.{entries_of, FileStands, is_used, NodeStands, number}
-use Rattle.write_jobs.specs.world_image_laws.Changed.{sound_headed}
-use Rattle.write_jobs.specs.world_image_laws.volume_laws.ImageLaws.{journaled-other}
-use Rattle.write_jobs.specs.world_image_laws.volume_laws.LineWords.{data_word}
-use Rattle.write_jobs.specs.Jobs.{FilledView, HoldWords, loan_at}
-use Rattle.write_jobs.specs.Loans.{ComeBack}
-use Rattle.live_model.specs.Flying.{IsFlying, with_entry}
-use Rattle.live_model.proofs.FlightsFlights.{flies_landed}
-use Rattle.write_jobs.specs.Blocks.{SpellWhole}
-use Rattle.live_model.specs.Standing.{AreOfTwoThreads, file_state, IsQuietBeside, IsSpellable, JobOut, reserved_run, StandsAt}
-use Rattle.live_model.specs.Jobs.{SpellCall, without}
-use Rattle.write_plan.specs.Asks.{CanMoveBy, moved_by}
-use Rattle.write_plan.specs.AsksLaws.{AreOfState}
-use Rattle.write_plan.proofs.Calls.{may_move as may_move_there, moves_as_call, open_moved}
+use Rattle.in_place.specs.write_plan.posix_tables.declared.nodes.Node.{Node}
+use Rattle.in_place.specs.write_plan.posix_tables.Nodes.{bytes_of, node_at}
+use Rattle.in_place.specs.write_plan.posix_tables.Open.{is_open, same_who, Tables}
+use Rattle.in_place.specs.write_plan.posix_laws.Puts.{put_bytes, PutsWhole}
+use Rattle.in_place.specs.write_plan.posix_spec.Run.{after_call, Unfinished}
+use Rattle.in_place.specs.write_plan.posix_spec.State.{alone, State, with_file}
+use Rattle.in_place.specs.live_model.write_jobs.world_model.crash_spec.Sync.{with_bytes}
+use Rattle.in_place.specs.live_model.write_jobs.world_image_laws.world_model.JobLaws.{acted, HoldsWhole-found, live_claims-more}
+use Rattle.in_place.specs.live_model.write_jobs.world_image_laws.world_model.TreeRules.{used_below}
+use Rattle.in_place.specs.live_model.write_jobs.world_image_laws.world_model.Jobs.{HoldsWhole, live_claims, staged_block, unfinished_call}
+use Rattle.in_place.specs.live_model.write_jobs.world_image_laws.world_model.Stands.{entries_of, FileStands, is_used, NodeStands, number}
+use Rattle.in_place.specs.live_model.write_jobs.world_image_laws.Changed.{sound_headed}
+use Rattle.in_place.specs.live_model.write_jobs.world_image_laws.volume_laws.ImageLaws.{journaled-other}
+use Rattle.in_place.specs.live_model.write_jobs.world_image_laws.volume_laws.LineWords.{data_word}
+use Rattle.in_place.specs.live_model.write_jobs.Jobs.{FilledView, HoldWords, loan_at}
+use Rattle.in_place.specs.live_model.write_jobs.Loans.{ComeBack}
+use Rattle.in_place.specs.live_model.Flying.{IsFlying, with_entry}
+use Rattle.in_place.proofs.live_model_proofs.FlightsFlights.{flies_landed}
+use Rattle.in_place.specs.live_model.write_jobs.Blocks.{SpellWhole}
+use Rattle.in_place.specs.live_model.Standing.{AreOfTwoThreads, file_state, IsQuietBeside, IsSpellable, JobOut, reserved_run, StandsAt}
+use Rattle.in_place.specs.live_model.Jobs.{SpellCall, without}
+use Rattle.in_place.specs.write_plan.Asks.{CanMoveBy, moved_by}
+use Rattle.in_place.specs.write_plan.AsksLaws.{AreOfState}
+use Rattle.in_place.proofs.write_plan_proofs.Calls.{may_move as may_move_there, moves_as_call, open_moved}
 use Rattle.write_end.specs.Ends.{finished, HasJob}
 use Rattle.write_end.specs.Landing.{HasLanded}
 use Rattle.write_end.proofs.Ending.{claims, flying, is_file, j, loans_count, numbers, others, place_is, put_back, spelled, split, stood, v, valid, words}

@@ -4,44 +4,44 @@ use Rattle.std.specs.Prelude.{AllPairs, find, reverse, slice_index_or}
 use Rattle.std.specs.Option.{option_map, option_or}
 use Rattle.std.proofs.lemmas.List.{reverse-append}
 use Rattle.std.proofs.lemmas.List.Folds.{find-append}
-use Rattle.write_plan.specs.pm_model.ImageLaws.{IsImage-words_of}
-use Rattle.write_plan.specs.pm_model.Images.{words_of}
-use Rattle.write_plan.specs.pm_model.Words.{Words}
+use Rattle.in_place.specs.write_plan.pm_model.ImageLaws.{IsImage-words_of}
+use Rattle.in_place.specs.write_plan.pm_model.Images.{words_of}
+use Rattle.in_place.specs.write_plan.pm_model.Words.{Words}
 use Rattle.layout_model.specs.declared.lines.Draft.{Draft}
 use Rattle.layout_model.specs.declared.lines.Kind.TheVariants.{File}
-use Rattle.write_plan.specs.extent_model.Extents.{disk_at}
-use Rattle.write_jobs.specs.world_image_laws.image_model.Content.{disk_of}
-use Rattle.write_jobs.specs.world_image_laws.image_model.Volume.{extents, inode, Volume}
+use Rattle.in_place.specs.write_plan.extent_model.Extents.{disk_at}
+use Rattle.in_place.specs.live_model.write_jobs.world_image_laws.image_model.Content.{disk_of}
+use Rattle.in_place.specs.live_model.write_jobs.world_image_laws.image_model.Volume.{extents, inode, Volume}
 use Rattle.file_overlay.specs.declared.runs.Run.{Run}
-use Rattle.write_plan.specs.file_overlay.Runs.{has_block, place_in, staged_at}
-use Rattle.write_plan.specs.file_table.Files.{Files, runs_in}
-use Rattle.write_jobs.specs.world_image_laws.k_split_model.View.{View}
-use Rattle.write_plan.specs.list_laws.Members.{In}
+use Rattle.in_place.specs.write_plan.file_overlay.Runs.{has_block, place_in, staged_at}
+use Rattle.in_place.specs.write_plan.file_table.Files.{Files, runs_in}
+use Rattle.in_place.specs.live_model.write_jobs.world_image_laws.k_split_model.View.{View}
+use Rattle.in_place.specs.write_plan.list_laws.Members.{In}
 use Rattle.posix_types.specs.declared.call.Who.{Who}
-use Rattle.write_plan.specs.commute_laws.Frames.{AreThreads}
-use Rattle.write_plan.specs.commute_laws.Flights.{InFlight}
-use Rattle.write_plan.specs.commute_laws.Handles.{same_who-sym}
-use Rattle.write_plan.specs.commute_laws.Needs.{AreAfforded-finished, AreInFlight, AreTwo, IsApart}
-use Rattle.write_plan.specs.commute_laws.Orders.{AreTwoEach}
-use Rattle.write_plan.specs.posix_laws.Views.{AreAfforded}
-use Rattle.write_plan.specs.posix_spec.Run.{after_call}
-use Rattle.write_plan.specs.posix_spec.State.{State}
-use Rattle.write_jobs.specs.world_model.crash_spec.Sync.{with_bytes}
-use Rattle.write_jobs.specs.world_write_laws.JobSteps.{Valid-front}
-use Rattle.write_jobs.specs.world_image_laws.world_model.Beside.{with_bytes-whole}
-use Rattle.write_jobs.specs.world_image_laws.world_model.JobLaws.{live_file, live_used}
-use Rattle.write_jobs.specs.world_image_laws.world_model.Jobs.{ApartFrom, IsInFront, Job, JobsStand, JobStands, live_claims, unfinished_call, Valid}
-use Rattle.write_jobs.specs.world_image_laws.world_model.Promised.{AreWhole}
-use Rattle.write_jobs.specs.world_image_laws.world_model.Stands.{number, Stands}
-use Rattle.write_jobs.specs.world_image_laws.world_step_laws.Parts.{FliesWith}
-use Rattle.write_jobs.specs.world_image_laws.world_step_laws.Steps.{AreInFlight-jobs, begun-flights, flight_of, flights_of}
-use Rattle.write_jobs.specs.world_image_laws.world_step_laws.Worlds.{IsWorld}
-use Rattle.write_plan.specs.data_route.Reads.{source_by}
-use Rattle.write_plan.specs.file_reads.Reads.{block_of}
-use Rattle.live_model.specs.Overlays.{run_of}
-use Rattle.live_model.specs.Standing.{AreJobsOf, AreOfTwoThreads, JobOut}
-use Rattle.live_model.proofs.OverlaysOverlays.{overlay_is_log}
-use Rattle.write_jobs.specs.Jobs.{FilledView}
+use Rattle.in_place.specs.write_plan.commute_laws.Frames.{AreThreads}
+use Rattle.in_place.specs.write_plan.commute_laws.Flights.{InFlight}
+use Rattle.in_place.specs.write_plan.commute_laws.Handles.{same_who-sym}
+use Rattle.in_place.specs.write_plan.commute_laws.Needs.{AreAfforded-finished, AreInFlight, AreTwo, IsApart}
+use Rattle.in_place.specs.write_plan.commute_laws.Orders.{AreTwoEach}
+use Rattle.in_place.specs.write_plan.posix_laws.Views.{AreAfforded}
+use Rattle.in_place.specs.write_plan.posix_spec.Run.{after_call}
+use Rattle.in_place.specs.write_plan.posix_spec.State.{State}
+use Rattle.in_place.specs.live_model.write_jobs.world_model.crash_spec.Sync.{with_bytes}
+use Rattle.in_place.specs.live_model.write_jobs.world_write_laws.JobSteps.{Valid-front}
+use Rattle.in_place.specs.live_model.write_jobs.world_image_laws.world_model.Beside.{with_bytes-whole}
+use Rattle.in_place.specs.live_model.write_jobs.world_image_laws.world_model.JobLaws.{live_file, live_used}
+use Rattle.in_place.specs.live_model.write_jobs.world_image_laws.world_model.Jobs.{ApartFrom, IsInFront, Job, JobsStand, JobStands, live_claims, unfinished_call, Valid}
+use Rattle.in_place.specs.live_model.write_jobs.world_image_laws.world_model.Promised.{AreWhole}
+use Rattle.in_place.specs.live_model.write_jobs.world_image_laws.world_model.Stands.{number, Stands}
+use Rattle.in_place.specs.live_model.write_jobs.world_image_laws.world_step_laws.Parts.{FliesWith}
+use Rattle.in_place.specs.live_model.write_jobs.world_image_laws.world_step_laws.Steps.{AreInFlight-jobs, begun-flights, flight_of, flights_of}
+use Rattle.in_place.specs.live_model.write_jobs.world_image_laws.world_step_laws.Worlds.{IsWorld}
+use Rattle.in_place.specs.write_plan.data_route.Reads.{source_by}
+use Rattle.in_place.specs.write_plan.file_reads.Reads.{block_of}
+use Rattle.in_place.specs.live_model.Overlays.{run_of}
+use Rattle.in_place.specs.live_model.Standing.{AreJobsOf, AreOfTwoThreads, JobOut}
+use Rattle.in_place.proofs.live_model_proofs.OverlaysOverlays.{overlay_is_log}
+use Rattle.in_place.specs.live_model.write_jobs.Jobs.{FilledView}
 use Rattle.in_place.specs.Holes.{IsPresent}
 use Rattle.write_end.specs.Ends.{HasJob}
 use Rattle.write_end.proofs.Ending.{claims, numbers, v, words}

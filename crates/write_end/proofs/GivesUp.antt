@@ -5,31 +5,31 @@ use Rattle.std.proofs.lemmas.Bool.Decides.{nat_tests}
 use Rattle.std.proofs.lemmas.List.{length-append}
 use Rattle.std.proofs.lemmas.List.Kept.{AllPairs-filter}
 use Rattle.std.proofs.lemmas.Option.{same_Some}
-use Rattle.write_plan.specs.pm_model.declared.Cell.{Cell}
-use Rattle.write_plan.specs.pm_model.CellLaws.{single-home}
-use Rattle.write_plan.specs.pm_model.Cells.{cell, is_lent, is_single}
+use Rattle.in_place.specs.write_plan.pm_model.declared.Cell.{Cell}
+use Rattle.in_place.specs.write_plan.pm_model.CellLaws.{single-home}
+use Rattle.in_place.specs.write_plan.pm_model.Cells.{cell, is_lent, is_single}
 use Rattle.layout_model.specs.declared.lines.Draft.{Draft}
 use Rattle.layout_model.specs.Entries.{is_draft}
-use Rattle.write_plan.specs.layout_model.Places.{Geometry}
-use Rattle.write_jobs.specs.world_image_laws.image_model.Rules.{AreApart}
-use Rattle.write_jobs.specs.world_image_laws.image_model.Volume.{extents}
-use Rattle.write_plan.specs.extent_model.Extents.{disk_at, is_within}
-use Rattle.write_jobs.specs.world_image_laws.k_split_model.View.{View}
-use Rattle.write_jobs.specs.k_split.Order.{IsInOrder}
-use Rattle.write_plan.specs.list_laws.Members.{In}
-use Rattle.write_plan.specs.posix_tables.Open.{same_who}
-use Rattle.live_model.specs.staging_files.declared.runs.StageRun.{StageRun}
-use Rattle.live_model.specs.staging_files.GivesUp.{IsGivenBack}
-use Rattle.live_model.specs.staging_files.Keeps.{Agrees, AreFreeSingle, IsRunSingle, IsStaged, IsThere, Staged}
-use Rattle.write_jobs.specs.world_image_laws.world_model.Jobs.{Job, live_claims, staged_block}
-use Rattle.write_jobs.specs.world_image_laws.world_model.Promised.{AreWhole}
-use Rattle.write_jobs.specs.Jobs.{FilledView, HoldWords, loan_at}
-use Rattle.write_jobs.specs.Loans.{ComeBack}
-use Rattle.live_model.specs.Flying.{IsFlying}
-use Rattle.live_model.proofs.FlightsFlights.{others_home, others_out}
-use Rattle.write_jobs.proofs.Ends.{gives_up_job}
-use Rattle.live_model.specs.Standing.{AreOfTwoThreads, file_state, IsQuietBeside, JobOut, reserved_run, StandsAt}
-use Rattle.live_model.specs.Jobs.{without}
+use Rattle.in_place.specs.write_plan.layout_model.Places.{Geometry}
+use Rattle.in_place.specs.live_model.write_jobs.world_image_laws.image_model.Rules.{AreApart}
+use Rattle.in_place.specs.live_model.write_jobs.world_image_laws.image_model.Volume.{extents}
+use Rattle.in_place.specs.write_plan.extent_model.Extents.{disk_at, is_within}
+use Rattle.in_place.specs.live_model.write_jobs.world_image_laws.k_split_model.View.{View}
+use Rattle.in_place.specs.live_model.write_jobs.k_split.Order.{IsInOrder}
+use Rattle.in_place.specs.write_plan.list_laws.Members.{In}
+use Rattle.in_place.specs.write_plan.posix_tables.Open.{same_who}
+use Rattle.in_place.specs.live_model.staging_files.declared.runs.StageRun.{StageRun}
+use Rattle.in_place.specs.live_model.staging_files.GivesUp.{IsGivenBack}
+use Rattle.in_place.specs.live_model.staging_files.Keeps.{Agrees, AreFreeSingle, IsRunSingle, IsStaged, IsThere, Staged}
+use Rattle.in_place.specs.live_model.write_jobs.world_image_laws.world_model.Jobs.{Job, live_claims, staged_block}
+use Rattle.in_place.specs.live_model.write_jobs.world_image_laws.world_model.Promised.{AreWhole}
+use Rattle.in_place.specs.live_model.write_jobs.Jobs.{FilledView, HoldWords, loan_at}
+use Rattle.in_place.specs.live_model.write_jobs.Loans.{ComeBack}
+use Rattle.in_place.specs.live_model.Flying.{IsFlying}
+use Rattle.in_place.proofs.live_model_proofs.FlightsFlights.{others_home, others_out}
+use Rattle.in_place.proofs.live_model_proofs.write_jobs_proofs.Ends.{gives_up_job}
+use Rattle.in_place.specs.live_model.Standing.{AreOfTwoThreads, file_state, IsQuietBeside, JobOut, reserved_run, StandsAt}
+use Rattle.in_place.specs.live_model.Jobs.{without}
 use Rattle.write_end.specs.Ends.{given_up, HasJob, LeavesGivenUp}
 use Rattle.write_end.proofs.Ending.{claims, flying, j, loans_count, numbers, others, out, places, put_back, split, stood, valid, draft_is}
 use Rattle.write_end.proofs.EndsPending.{apart_of, job_of, left_there}

@@ -1,7 +1,7 @@
 -- The power goes in a call of a World that stood together, or is found off.
 use Rattle.std.proofs.Common.{◌≡◌, ◌≢◌, ◌∷◌, [], ℕ, true, List, None, refl, ◌∙◌, sym, subst, inl, inr}
 use Rattle.std.specs.Prelude.{map}
-use Rattle.write_jobs.specs.world_image_laws.Settings.{setting_run}
+use Rattle.in_place.specs.live_model.write_jobs.world_image_laws.Settings.{setting_run}
 use Rattle.oplog_entry.specs.pm_model.ImageLaws.{IsImage-words_of}
 use Rattle.oplog_entry.specs.pm_model.Images.{words_of}
 use Rattle.oplog_entry.specs.pm_model.Words.{Words}
@@ -17,13 +17,13 @@ use Rattle.in_place.specs.k_split_laws.posix_types.declared.item.Item.{Item}
 use Rattle.in_place.specs.k_split_laws.posix_tables.Open.{Tables}
 use Rattle.in_place.specs.k_split_laws.posix_spec.Run.{run}
 use Rattle.in_place.specs.k_split_laws.posix_spec.State.{State}
-use Rattle.write_jobs.specs.world_image_laws.Changed.{sound_headed}
-use Rattle.write_jobs.specs.world_image_laws.Back.{IsKeptBack}
-use Rattle.write_jobs.specs.world_image_laws.InLog.{kept_back_more}
-use Rattle.write_jobs.specs.world_image_laws.Flights.{promise_in_flight}
-use Rattle.write_plan.specs.eof_laws.log_checkpoint.world_model.Jobs.{unfinished_call, Job, JobStands, live_claims}
-use Rattle.write_plan.specs.eof_laws.log_checkpoint.world_model.Stands.{number}
-use Rattle.live_model.specs.Standing.{AreJobsOf, Kept, JobOut, StandsAt}
+use Rattle.in_place.specs.live_model.write_jobs.world_image_laws.Changed.{sound_headed}
+use Rattle.in_place.specs.live_model.write_jobs.world_image_laws.Back.{IsKeptBack}
+use Rattle.in_place.specs.live_model.write_jobs.world_image_laws.InLog.{kept_back_more}
+use Rattle.in_place.specs.live_model.write_jobs.world_image_laws.Flights.{promise_in_flight}
+use Rattle.in_place.specs.write_plan.eof_laws.log_checkpoint.world_model.Jobs.{unfinished_call, Job, JobStands, live_claims}
+use Rattle.in_place.specs.write_plan.eof_laws.log_checkpoint.world_model.Stands.{number}
+use Rattle.in_place.specs.live_model.Standing.{AreJobsOf, Kept, JobOut, StandsAt}
 use Rattle.write_end.specs.Ends.{begun_by}
 use Rattle.write_end.proofs.LosingPending.{stands_of}
 use Rattle.write_end.specs.LosingLaws.{IsFoundAtCall, IsFoundLost, IsLostAlike, LosesCall}

@@ -6,7 +6,7 @@ use Rattle.oplog_entry.specs.pm_model.Cells.{cell, is_lent, unmarked}
 use Rattle.oplog_entry.specs.pm_model.Parts.{Part}
 use Rattle.in_place.specs.k_split_laws.list_laws.Members.{In}
 use Rattle.write_end.proofs.LosingPending.{job_of}
-use Rattle.write_jobs.specs.Jobs.{loan_at}
+use Rattle.in_place.specs.live_model.write_jobs.Jobs.{loan_at}
 use Rattle.write_end.specs.LosingLaws.{ComeHomeMore, ComeHomeNone, HasBlocksOut, LeavesBlocks}
 use Rattle.write_end.proofs.Jobs.{blocks_out}
 

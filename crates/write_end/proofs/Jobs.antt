@@ -15,17 +15,17 @@ use Rattle.oplog_entry.specs.layout_model.Places.{is_data_block}
 use Rattle.oplog_entry.specs.image_model.Rules.{AreApart, file_blocks_of}
 use Rattle.oplog_entry.specs.image_model.Volume.{extents, inode, Volume}
 use Rattle.in_place.specs.k_split_laws.extent_model.Covers.{covers-disk_at}
-use Rattle.write_jobs.specs.Blocks.{AreOut}
+use Rattle.in_place.specs.live_model.write_jobs.Blocks.{AreOut}
 use Rattle.in_place.specs.k_split_laws.list_laws.Members.{In}
 use Rattle.in_place.specs.k_split_laws.posix_types.declared.item.Item.{Item}
 use Rattle.in_place.specs.k_split_laws.posix_spec.Run.{Unfinished}
 use Rattle.in_place.specs.k_split_laws.posix_spec.State.{State}
 use Rattle.in_place.specs.k_split_laws.volume_laws.OwnerLaws.{IsOnePlace, one_owner}
 use Rattle.in_place.specs.k_split_laws.volume_laws.PoolLaws.{covered-in_data}
-use Rattle.write_plan.specs.eof_laws.log_checkpoint.world_model.Lent.{once_named}
-use Rattle.write_plan.specs.eof_laws.log_checkpoint.world_model.Jobs.{IsStagedIn, Job, JobsStand, JobStands, live_claims, staged_block}
-use Rattle.write_plan.specs.eof_laws.log_checkpoint.world_model.Stands.{IsSane}
-use Rattle.live_model.specs.Standing.{AreJobsOf, HasItsBlocks, Kept, JobOut}
+use Rattle.in_place.specs.write_plan.eof_laws.log_checkpoint.world_model.Lent.{once_named}
+use Rattle.in_place.specs.write_plan.eof_laws.log_checkpoint.world_model.Jobs.{IsStagedIn, Job, JobsStand, JobStands, live_claims, staged_block}
+use Rattle.in_place.specs.write_plan.eof_laws.log_checkpoint.world_model.Stands.{IsSane}
+use Rattle.in_place.specs.live_model.Standing.{AreJobsOf, HasItsBlocks, Kept, JobOut}
 use Rattle.write_end.proofs.LosingPending.{IsJobOf, apart_of, job_of, staging_below, stands_of}
 use Rattle.write_end.specs.Blocks.{AreBlocksHome, AreBlocksOut, AreHome}
 use Rattle.write_end.specs.Lost.{IsLostJob, IsLostWith}

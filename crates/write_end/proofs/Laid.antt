@@ -5,12 +5,12 @@ use Rattle.std.proofs.lemmas.Bool.{eqb-true}
 use Rattle.std.proofs.lemmas.List.{get_or-set_other, get_or-set_same, length-set}
 use Rattle.layout_model.specs.declared.lines.Draft.{Draft}
 use Rattle.layout_model.specs.declared.lines.Kind.TheVariants.{File}
-use Rattle.write_jobs.specs.world_image_laws.image_model.Volume.{inode, Volume}
-use Rattle.write_plan.specs.file_table.Files.{ChangesFile, Files, runs_in, size_in}
-use Rattle.live_model.specs.world_model.HeldLaws.{AreSizes}
-use Rattle.live_model.specs.Overlays.{IsOverlayOf, run_of}
-use Rattle.live_model.specs.Flying.{AreOverlays, FileState, with_entry}
-use Rattle.live_model.specs.Standing.{file_state}
+use Rattle.in_place.specs.live_model.write_jobs.world_image_laws.image_model.Volume.{inode, Volume}
+use Rattle.in_place.specs.write_plan.file_table.Files.{ChangesFile, Files, runs_in, size_in}
+use Rattle.in_place.specs.live_model.world_model.HeldLaws.{AreSizes}
+use Rattle.in_place.specs.live_model.Overlays.{IsOverlayOf, run_of}
+use Rattle.in_place.specs.live_model.Flying.{AreOverlays, FileState, with_entry}
+use Rattle.in_place.specs.live_model.Standing.{file_state}
 
 module _ (d : Draft) (old new : Files) (changes : ChangesFile d.ino (runs_in old d.ino ++ run_of d ∷ []) d.size old new) (below : d.ino < length old.sizes) where
   own_size : size_in new d.ino ≡ d.size

@@ -8,33 +8,33 @@ use Rattle.std.proofs.lemmas.List.{get_or-take, length-take}
 use Rattle.layout_model.specs.declared.lines.Draft.{Draft}
 use Rattle.layout_model.specs.Entries.{is_draft}
 use Rattle.layout_model.specs.block_counts.declared.TheConstants.{LONGEST_FILE, LONGEST_WRITE}
-use Rattle.write_jobs.specs.world_image_laws.image_model.Volume.{inode}
-use Rattle.write_plan.specs.file_table.Files.{Files}
-use Rattle.write_jobs.specs.world_image_laws.k_split_model.View.{View}
+use Rattle.in_place.specs.live_model.write_jobs.world_image_laws.image_model.Volume.{inode}
+use Rattle.in_place.specs.write_plan.file_table.Files.{Files}
+use Rattle.in_place.specs.live_model.write_jobs.world_image_laws.k_split_model.View.{View}
 use Rattle.in_place.specs.k_split_laws.k_journal.declared.outcomes.Commit.{Commit}
-use Rattle.write_plan.specs.list_laws.Members.{In}
+use Rattle.in_place.specs.write_plan.list_laws.Members.{In}
 use Rattle.posix_types.specs.declared.call.Call.{Call}
 use Rattle.posix_types.specs.declared.call.Mode.{Mode}
 use Rattle.posix_types.specs.declared.call.Who.{Who}
 use Rattle.posix_types.specs.declared.handle.Handle.{Handle}
-use Rattle.write_plan.specs.posix_tables.Bytes.{overwritten}
-use Rattle.write_plan.specs.posix_tables.Nodes.{bytes_of, node_at}
-use Rattle.write_plan.specs.posix_tables.Open.{Tables}
-use Rattle.write_plan.specs.posix_laws.FitsLaws.{length-overwritten}
-use Rattle.write_plan.specs.posix_laws.Puts.{put_bytes, PutsWhole}
-use Rattle.write_plan.specs.posix_laws.RowLaws.{put_at-Some}
-use Rattle.write_plan.specs.posix_spec.FileRows.{write_start}
-use Rattle.write_plan.specs.posix_spec.Put.{Put, put_at, put_by}
-use Rattle.write_plan.specs.posix_spec.Run.{after_call}
-use Rattle.write_plan.specs.posix_spec.State.{State}
-use Rattle.write_jobs.specs.world_model.crash_spec.Sync.{with_bytes}
-use Rattle.write_jobs.specs.world_image_laws.world_model.JobLaws.{acted}
-use Rattle.write_jobs.specs.world_image_laws.world_model.Jobs.{front_from, IsInFront, Job, JobStands, live_claims, put_bytes_of, unfinished_call}
-use Rattle.write_jobs.specs.world_image_laws.world_model.Stands.{number}
-use Rattle.write_jobs.specs.world_image_laws.world_step_laws.Parts.{FliesWith, part_of}
-use Rattle.write_jobs.specs.world_image_laws.world_step_laws.Steps.{flight_of}
-use Rattle.live_model.specs.Standing.{StandsAt}
-use Rattle.write_jobs.specs.Jobs.{FilledView}
+use Rattle.in_place.specs.write_plan.posix_tables.Bytes.{overwritten}
+use Rattle.in_place.specs.write_plan.posix_tables.Nodes.{bytes_of, node_at}
+use Rattle.in_place.specs.write_plan.posix_tables.Open.{Tables}
+use Rattle.in_place.specs.write_plan.posix_laws.FitsLaws.{length-overwritten}
+use Rattle.in_place.specs.write_plan.posix_laws.Puts.{put_bytes, PutsWhole}
+use Rattle.in_place.specs.write_plan.posix_laws.RowLaws.{put_at-Some}
+use Rattle.in_place.specs.write_plan.posix_spec.FileRows.{write_start}
+use Rattle.in_place.specs.write_plan.posix_spec.Put.{Put, put_at, put_by}
+use Rattle.in_place.specs.write_plan.posix_spec.Run.{after_call}
+use Rattle.in_place.specs.write_plan.posix_spec.State.{State}
+use Rattle.in_place.specs.live_model.write_jobs.world_model.crash_spec.Sync.{with_bytes}
+use Rattle.in_place.specs.live_model.write_jobs.world_image_laws.world_model.JobLaws.{acted}
+use Rattle.in_place.specs.live_model.write_jobs.world_image_laws.world_model.Jobs.{front_from, IsInFront, Job, JobStands, live_claims, put_bytes_of, unfinished_call}
+use Rattle.in_place.specs.live_model.write_jobs.world_image_laws.world_model.Stands.{number}
+use Rattle.in_place.specs.live_model.write_jobs.world_image_laws.world_step_laws.Parts.{FliesWith, part_of}
+use Rattle.in_place.specs.live_model.write_jobs.world_image_laws.world_step_laws.Steps.{flight_of}
+use Rattle.in_place.specs.live_model.Standing.{StandsAt}
+use Rattle.in_place.specs.live_model.write_jobs.Jobs.{FilledView}
 use Rattle.in_place.specs.Holes.{IsPresent}
 use Rattle.in_place.specs.Placing.{CanPlace, PlacesOn, Placing}
 use Rattle.write_end.specs.Ends.{call_out, finished, HasJob, LeavesFinished}

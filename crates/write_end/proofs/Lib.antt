@@ -20,4 +20,4 @@ pub mod LogLines
 mod Acted
 pub mod Crashed
 pub use Rattle.in_place.proofs.k_split_laws_proofs.k_split_proofs
-pub use Rattle.write_jobs.proofs as write_jobs_proofs
+pub use Rattle.in_place.proofs.live_model_proofs.write_jobs_proofs as write_jobs_proofs

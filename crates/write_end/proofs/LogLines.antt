@@ -16,9 +16,9 @@ use Rattle.in_place.specs.k_split_laws.k_split.Laps.{IsLogWord}
 use Rattle.in_place.specs.k_split_laws.block_io.Lines.{line_at}
 use Rattle.oplog_entry.specs.EntryBytes.{encode_entry-small, length-encode_entry}
 use Rattle.oplog_entry.specs.EntryLines.{entry_words}
-use Rattle.write_plan.specs.eof_laws.log_checkpoint.world_model.Lines as lined
-use Rattle.write_plan.specs.eof_laws.log_checkpoint.world_model.Lines.{HoldsWords, IsClaimedLine, Spells}
-use Rattle.live_model.specs.Standing.{IsSpellable}
+use Rattle.in_place.specs.write_plan.eof_laws.log_checkpoint.world_model.Lines as lined
+use Rattle.in_place.specs.write_plan.eof_laws.log_checkpoint.world_model.Lines.{HoldsWords, IsClaimedLine, Spells}
+use Rattle.in_place.specs.live_model.Standing.{IsSpellable}
 use Rattle.write_end.specs.CrashesLaws.{LinesAreHome, LinesHoldOut}
 use Rattle.write_end.specs.Lines.{AreLinesOf, first_at, IsJobLine}
 

@@ -12,11 +12,11 @@ use Rattle.std.proofs.Common.{Bool, List, Some, [], ap, arith, cond, false, inl,
 use Rattle.std.proofs.lemmas.Bool.{cases_lt}
 use Rattle.std.proofs.lemmas.List.{get_or_past, length-map}
 use Rattle.std.specs.Prelude.{AllPairs, slice_index, slice_index_or}
-use Rattle.write_jobs.specs.world_image_laws.world_model.Jobs.{ApartFrom, AreApartJobs, Job, JobStands, JobsStand, staged_block}
-use Rattle.live_model.specs.Standing.{AreJobsOf, AreOfTwoThreads, HasItsBlocks, JobOut}
-use Rattle.live_model.specs.Jobs.{without}
-use Rattle.write_plan.specs.eof_laws.log_checkpoint.commute_laws.Handles.{same_who-sym}
-use Rattle.write_jobs.specs.Jobs.{FilledView, blocks_of, loan_at}
+use Rattle.in_place.specs.live_model.write_jobs.world_image_laws.world_model.Jobs.{ApartFrom, AreApartJobs, Job, JobStands, JobsStand, staged_block}
+use Rattle.in_place.specs.live_model.Standing.{AreJobsOf, AreOfTwoThreads, HasItsBlocks, JobOut}
+use Rattle.in_place.specs.live_model.Jobs.{without}
+use Rattle.in_place.specs.write_plan.eof_laws.log_checkpoint.commute_laws.Handles.{same_who-sym}
+use Rattle.in_place.specs.live_model.write_jobs.Jobs.{FilledView, blocks_of, loan_at}
 
 -- the first one and those behind it
 two_of : (p : JobOut) (pending : List JobOut) (q : JobOut) → AllPairs AreOfTwoThreads (p ∷ pending) → In q pending → AreOfTwoThreads p q

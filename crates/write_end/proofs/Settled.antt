@@ -1,25 +1,25 @@
 -- The blocks of a job are back: what holds of the device.
 use Rattle.std.proofs.Common.{◌≡◌, ◌≢◌, ◌⊎◌, ◌<◌, ◌+◌, ◌*◌, ◌/◌, ◌%◌, ◌++◌, ◌∷◌, [], ℕ, Bool, true, false, List, length, Some, refl, arith, ap, ◌∙◌, sym, subst, inl, inr}
 use Rattle.std.proofs.lemmas.Bool.{both_ways}
-use Rattle.write_plan.specs.pm_model.declared.Cell.{Cell}
-use Rattle.write_plan.specs.pm_model.CellLaws.{single-home}
-use Rattle.write_plan.specs.pm_model.Cells.{cell, is_lent, is_single, unmarked}
-use Rattle.write_plan.specs.layout_model.PlaceLaws.{regions_apart}
-use Rattle.write_plan.specs.layout_model.Places.{Geometry, is_data_block, IsGeometry, log_line}
-use Rattle.write_jobs.specs.world_image_laws.image_model.Rules.{file_blocks_of}
-use Rattle.write_jobs.specs.world_image_laws.image_model.Volume.{extents, inode}
-use Rattle.write_jobs.specs.world_image_laws.extent_model.Covers.{covers-disk_at}
-use Rattle.write_plan.specs.extent_model.Extents.{disk_at}
-use Rattle.write_jobs.specs.world_image_laws.volume_laws.PoolLaws.{covered-in_data}
-use Rattle.write_jobs.specs.world_image_laws.k_split_model.View.{View}
-use Rattle.write_plan.specs.list_laws.Members.{In}
-use Rattle.live_model.specs.staging_files.Keeps.{Agrees, AreFreeSingle, Staged}
-use Rattle.write_jobs.specs.world_image_laws.world_model.Jobs.{IsStagedIn, Job, staged_block}
-use Rattle.write_jobs.specs.Jobs.{FilledView, HoldWords, loan_at}
-use Rattle.write_jobs.specs.Loans.{ComeBack}
-use Rattle.live_model.specs.Flying.{IsOut}
-use Rattle.live_model.proofs.FlightsFlights.{others_out}
-use Rattle.live_model.specs.Standing.{AreLinesLent, file_state, IsQuietBeside, Kept}
+use Rattle.in_place.specs.write_plan.pm_model.declared.Cell.{Cell}
+use Rattle.in_place.specs.write_plan.pm_model.CellLaws.{single-home}
+use Rattle.in_place.specs.write_plan.pm_model.Cells.{cell, is_lent, is_single, unmarked}
+use Rattle.in_place.specs.write_plan.layout_model.PlaceLaws.{regions_apart}
+use Rattle.in_place.specs.write_plan.layout_model.Places.{Geometry, is_data_block, IsGeometry, log_line}
+use Rattle.in_place.specs.live_model.write_jobs.world_image_laws.image_model.Rules.{file_blocks_of}
+use Rattle.in_place.specs.live_model.write_jobs.world_image_laws.image_model.Volume.{extents, inode}
+use Rattle.in_place.specs.live_model.write_jobs.world_image_laws.extent_model.Covers.{covers-disk_at}
+use Rattle.in_place.specs.write_plan.extent_model.Extents.{disk_at}
+use Rattle.in_place.specs.live_model.write_jobs.world_image_laws.volume_laws.PoolLaws.{covered-in_data}
+use Rattle.in_place.specs.live_model.write_jobs.world_image_laws.k_split_model.View.{View}
+use Rattle.in_place.specs.write_plan.list_laws.Members.{In}
+use Rattle.in_place.specs.live_model.staging_files.Keeps.{Agrees, AreFreeSingle, Staged}
+use Rattle.in_place.specs.live_model.write_jobs.world_image_laws.world_model.Jobs.{IsStagedIn, Job, staged_block}
+use Rattle.in_place.specs.live_model.write_jobs.Jobs.{FilledView, HoldWords, loan_at}
+use Rattle.in_place.specs.live_model.write_jobs.Loans.{ComeBack}
+use Rattle.in_place.specs.live_model.Flying.{IsOut}
+use Rattle.in_place.proofs.live_model_proofs.FlightsFlights.{others_out}
+use Rattle.in_place.specs.live_model.Standing.{AreLinesLent, file_state, IsQuietBeside, Kept}
 use Rattle.write_end.specs.Ends.{HasJob}
 use Rattle.write_end.proofs.Ending.{claims, flying, j, loans_count, loans_out, numbers, place_is, places, put_back, split, staging_below, stood, v, valid, world}
 

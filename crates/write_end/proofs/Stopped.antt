@@ -7,9 +7,9 @@ use Rattle.oplog_entry.specs.pm_model.Words.{Words}
 use Rattle.oplog_entry.specs.layout_model.Journal.{IsSound}
 use Rattle.oplog_entry.specs.layout_model.Places.{Geometry}
 use Rattle.oplog_entry.specs.image_model.Volume.{inode, Volume}
-use Rattle.write_plan.specs.eof_laws.log_checkpoint.file_overlay.declared.runs.Run.{Run}
-use Rattle.write_plan.specs.eof_laws.log_checkpoint.file_table.Files.{Files, runs_in, size_in}
-use Rattle.write_plan.specs.eof_laws.log_checkpoint.fsync_relink.Publishes.{AreRelinked, IsPublishStopped, IsRelinkedUpTo, move_of, size_before}
+use Rattle.in_place.specs.write_plan.eof_laws.log_checkpoint.file_overlay.declared.runs.Run.{Run}
+use Rattle.in_place.specs.write_plan.eof_laws.log_checkpoint.file_table.Files.{Files, runs_in, size_in}
+use Rattle.in_place.specs.write_plan.eof_laws.log_checkpoint.fsync_relink.Publishes.{AreRelinked, IsPublishStopped, IsRelinkedUpTo, move_of, size_before}
 use Rattle.in_place.specs.k_split_laws.k_journal.declared.outcomes.Commit.{Commit}
 use Rattle.in_place.specs.k_split_laws.k_split_model.View.{View}
 use Rattle.in_place.specs.k_split_laws.k_split.Answers.{IsOff}
@@ -17,12 +17,12 @@ use Rattle.in_place.specs.k_split_laws.k_split.Laps.{IsBaseAnswer, next_base}
 use Rattle.in_place.specs.k_split_laws.k_split.MapChanges.{IsGivenUpWith, IsMapAnswer, IsMovedWith, IsSizedWith}
 use Rattle.in_place.specs.k_split_laws.k_split.Order.{IsInOrder}
 use Rattle.in_place.specs.k_split_laws.k_split.declared.faults.KFault.{KFault}
-use Rattle.write_plan.specs.eof_laws.log_checkpoint.Gathers.{AreDone, AreDoneUpTo, IsGatheredTo, IsLapAnswer, IsLineDone}
+use Rattle.in_place.specs.write_plan.eof_laws.log_checkpoint.Gathers.{AreDone, AreDoneUpTo, IsGatheredTo, IsLapAnswer, IsLineDone}
 use Rattle.in_place.proofs.k_split_laws_proofs.Cuts.{left_map_cut, left_same, left_through}
 use Rattle.in_place.specs.k_split_laws.Left.{IsLeftOf}
-use Rattle.write_plan.specs.eof_laws.log_checkpoint.staging_files.GivesUp.{AreCutOff, AreGivenUp}
-use Rattle.write_plan.specs.eof_laws.log_checkpoint.staging_files.Keeps.{Staged}
-use Rattle.write_jobs.specs.world_image_laws.Changed.{sound_headed}
+use Rattle.in_place.specs.write_plan.eof_laws.log_checkpoint.staging_files.GivesUp.{AreCutOff, AreGivenUp}
+use Rattle.in_place.specs.write_plan.eof_laws.log_checkpoint.staging_files.Keeps.{Staged}
+use Rattle.in_place.specs.live_model.write_jobs.world_image_laws.Changed.{sound_headed}
 use Rattle.write_end.specs.Stops.{KeepsGatheredOut, KeepsOut, KeepsPublishedOut, LeavesStopped}
 use Rattle.in_place.specs.k_split_laws.k_split_model.declared.map_changes.moves.Move.{Move}
 

@@ -6,7 +6,7 @@ use Rattle.oplog_entry.specs.pm_model.Parts.{Part}
 use Rattle.oplog_entry.specs.layout_model.declared.lines.Draft.{Draft}
 use Rattle.oplog_entry.specs.image_model.Volume.{Volume}
 use Rattle.in_place.specs.k_split_laws.list_laws.Members.{In}
-use Rattle.write_plan.specs.eof_laws.log_checkpoint.world_model.Jobs.{IsStagedIn}
+use Rattle.in_place.specs.write_plan.eof_laws.log_checkpoint.world_model.Jobs.{IsStagedIn}
 
 -- each word of the blocks is lent; and none is
 abbrev pub AreBlocksOut : List ℕ → List Cell → Type 0

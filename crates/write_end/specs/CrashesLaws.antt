@@ -15,11 +15,11 @@ use Rattle.in_place.specs.k_split_laws.posix_types.declared.item.Item.{Item}
 use Rattle.in_place.specs.k_split_laws.posix_tables.Open.{Tables}
 use Rattle.in_place.specs.k_split_laws.posix_spec.Run.{Unfinished, run}
 use Rattle.in_place.specs.k_split_laws.posix_spec.State.{State}
-use Rattle.write_jobs.specs.world_image_laws.Promised.{KeepsPromise}
-use Rattle.write_plan.specs.eof_laws.log_checkpoint.world_model.Lines.{AreLinesOut}
-use Rattle.live_model.specs.Standing.{AreLinesLent, Kept, JobOut, StandsAt}
+use Rattle.in_place.specs.live_model.write_jobs.world_image_laws.Promised.{KeepsPromise}
+use Rattle.in_place.specs.write_plan.eof_laws.log_checkpoint.world_model.Lines.{AreLinesOut}
+use Rattle.in_place.specs.live_model.Standing.{AreLinesLent, Kept, JobOut, StandsAt}
 use Rattle.write_end.specs.Ends.{begun_by, IsOut}
-use Rattle.write_jobs.specs.Jobs.{FilledView, HoldWords}
+use Rattle.in_place.specs.live_model.write_jobs.Jobs.{FilledView, HoldWords}
 use Rattle.write_end.specs.Blocks.{AreBlocksHome, AreBlocksOut, ComeHome}
 use Rattle.write_end.specs.Lines.{AreCrashLines}
 use Rattle.write_end.specs.Lost.{IsLostWith}

@@ -1,18 +1,18 @@
 -- What the end of a logged write finds of a World, and what it leaves.
 use Rattle.std.specs.Prelude.{◌≡◌, ◌≢◌, ◌+◌, ℕ, true, List, [], ◌∷◌, ◌++◌}
-use Rattle.write_plan.specs.layout_model.Places.{Geometry}
-use Rattle.write_plan.specs.file_table.Files.{Files}
-use Rattle.write_jobs.specs.world_image_laws.k_split_model.View.{View}
-use Rattle.write_plan.specs.list_laws.Members.{In}
+use Rattle.in_place.specs.write_plan.layout_model.Places.{Geometry}
+use Rattle.in_place.specs.write_plan.file_table.Files.{Files}
+use Rattle.in_place.specs.live_model.write_jobs.world_image_laws.k_split_model.View.{View}
+use Rattle.in_place.specs.write_plan.list_laws.Members.{In}
 use Rattle.posix_types.specs.declared.call.Call.{Call}
 use Rattle.posix_types.specs.declared.call.Mode.{Mode}
-use Rattle.write_plan.specs.posix_tables.Open.{Tables}
-use Rattle.write_plan.specs.posix_spec.Run.{after_call, Unfinished}
-use Rattle.write_plan.specs.posix_spec.State.{State}
-use Rattle.live_model.specs.staging_files.Keeps.{Staged}
-use Rattle.write_jobs.specs.Jobs.{blocks_of, FilledView}
-use Rattle.live_model.specs.Standing.{Kept, JobOut, StandsAt}
-use Rattle.live_model.specs.Jobs.{SpellCall, without}
+use Rattle.in_place.specs.write_plan.posix_tables.Open.{Tables}
+use Rattle.in_place.specs.write_plan.posix_spec.Run.{after_call, Unfinished}
+use Rattle.in_place.specs.write_plan.posix_spec.State.{State}
+use Rattle.in_place.specs.live_model.staging_files.Keeps.{Staged}
+use Rattle.in_place.specs.live_model.write_jobs.Jobs.{blocks_of, FilledView}
+use Rattle.in_place.specs.live_model.Standing.{Kept, JobOut, StandsAt}
+use Rattle.in_place.specs.live_model.Jobs.{SpellCall, without}
 
 -- THE JOB IS OUT: it is that of one that is kept as out, with its entry, its blocks and the words of its call.
 pub record IsOut (kept : Kept) (s : State) (p : JobOut) (job : FilledView) : Type 0 where

@@ -14,12 +14,12 @@ use Rattle.in_place.specs.k_split_laws.posix_types.declared.item.Item.{Item}
 use Rattle.in_place.specs.k_split_laws.posix_tables.Open.{Tables}
 use Rattle.in_place.specs.k_split_laws.posix_spec.Run.{after_call, run}
 use Rattle.in_place.specs.k_split_laws.posix_spec.State.{State}
-use Rattle.write_plan.specs.eof_laws.log_checkpoint.world_model.JobLaws.{acted}
-use Rattle.write_plan.specs.eof_laws.log_checkpoint.world_model.Jobs.{HasParts, HoldsWhole, IsInFront, Job, put_bytes_of}
-use Rattle.live_model.specs.file_table.Files.{Files}
-use Rattle.live_model.specs.Jobs.{SpellCall, without}
-use Rattle.live_model.specs.Standing.{JobOut, StandsAt}
-use Rattle.write_jobs.specs.Jobs.{FilledView}
+use Rattle.in_place.specs.write_plan.eof_laws.log_checkpoint.world_model.JobLaws.{acted}
+use Rattle.in_place.specs.write_plan.eof_laws.log_checkpoint.world_model.Jobs.{HasParts, HoldsWhole, IsInFront, Job, put_bytes_of}
+use Rattle.in_place.specs.live_model.file_table.Files.{Files}
+use Rattle.in_place.specs.live_model.Jobs.{SpellCall, without}
+use Rattle.in_place.specs.live_model.Standing.{JobOut, StandsAt}
+use Rattle.in_place.specs.live_model.write_jobs.Jobs.{FilledView}
 use Rattle.in_place.specs.k_split_laws.list_laws.Members.{In}
 use Rattle.write_end.specs.Ends.{call_out, finished, HasJob, LeavesFinished}
 use Rattle.write_end.specs.LosingLaws.{AreSpelled, claimed_by, ComesHome}

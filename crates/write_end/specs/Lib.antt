@@ -13,13 +13,13 @@ pub use Rattle.in_place.specs.k_split_laws.k_split
 pub use Rattle.in_place.specs.k_split_laws.k_split_model
 pub use Rattle.oplog_entry.specs.layout_model
 pub use Rattle.in_place.specs.k_split_laws.list_laws
-pub use Rattle.live_model.specs as live_model
+pub use Rattle.in_place.specs.live_model as live_model
 pub use Rattle.oplog_entry.specs as oplog_entry
 pub use Rattle.oplog_entry.specs.pm_model
 pub use Rattle.in_place.specs.k_split_laws.posix_spec
 pub use Rattle.in_place.specs.k_split_laws.posix_types
 pub use Rattle.in_place.specs.k_split_laws.posix_tables
 pub use Rattle.in_place.specs.k_split_laws.volume_laws
-pub use Rattle.write_jobs.specs.world_image_laws as world_image_laws
-pub use Rattle.write_plan.specs.eof_laws.log_checkpoint.world_model
-pub use Rattle.write_jobs.specs as write_jobs
+pub use Rattle.in_place.specs.live_model.write_jobs.world_image_laws as world_image_laws
+pub use Rattle.in_place.specs.write_plan.eof_laws.log_checkpoint.world_model
+pub use Rattle.in_place.specs.live_model.write_jobs as write_jobs

@@ -9,7 +9,7 @@ use Rattle.oplog_entry.specs.image_model.LogRule.{HoldsEntry, IsAsAtFirst}
 use Rattle.in_place.specs.k_split_laws.block_io.Lines.{AreFrom, line_at}
 use Rattle.in_place.specs.k_split_laws.list_laws.Members.{In}
 use Rattle.oplog_entry.specs.EntryLines.{entry_words, IsPutOver}
-use Rattle.write_jobs.specs.Jobs.{FilledView}
+use Rattle.in_place.specs.live_model.write_jobs.Jobs.{FilledView}
 
 -- the words that line n of the log had when the lap began
 abbrev pub first_at : Geometry → Words → ℕ → Words

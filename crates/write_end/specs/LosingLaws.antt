@@ -3,7 +3,7 @@ use Rattle.std.specs.Prelude.{◌≡◌, ◌≢◌, ◌/◌, ℕ, true, false, L
 use Rattle.oplog_entry.specs.pm_model.declared.Cell.{Cell}
 use Rattle.oplog_entry.specs.pm_model.Cells.{cell, is_lent}
 use Rattle.oplog_entry.specs.pm_model.Parts.{Part}
-use Rattle.write_jobs.specs.Loans.{AreApart, ComeBack}
+use Rattle.in_place.specs.live_model.write_jobs.Loans.{AreApart, ComeBack}
 use Rattle.oplog_entry.specs.layout_model.declared.lines.Draft.{Draft}
 use Rattle.oplog_entry.specs.layout_model.Places.{Geometry}
 use Rattle.oplog_entry.specs.image_model.Volume.{Volume}
@@ -15,11 +15,11 @@ use Rattle.in_place.specs.k_split_laws.posix_types.declared.item.Item.{Item}
 use Rattle.in_place.specs.k_split_laws.posix_tables.Open.{Tables}
 use Rattle.in_place.specs.k_split_laws.posix_spec.Run.{Unfinished, run}
 use Rattle.in_place.specs.k_split_laws.posix_spec.State.{State}
-use Rattle.live_model.specs.Losses.{KeepsWhenLost}
-use Rattle.live_model.specs.Jobs.{without}
-use Rattle.live_model.specs.Standing.{IsSpellable, Kept, JobOut, StandsAt}
+use Rattle.in_place.specs.live_model.Losses.{KeepsWhenLost}
+use Rattle.in_place.specs.live_model.Jobs.{without}
+use Rattle.in_place.specs.live_model.Standing.{IsSpellable, Kept, JobOut, StandsAt}
 use Rattle.write_end.specs.Ends.{IsOut}
-use Rattle.write_jobs.specs.Jobs.{FilledView, HoldWords, blocks_of}
+use Rattle.in_place.specs.live_model.write_jobs.Jobs.{FilledView, HoldWords, blocks_of}
 use Rattle.write_end.specs.Blocks.{AreBlocksHome, AreBlocksOut, ComeHome}
 use Rattle.write_end.specs.Lost.{IsLostWith}
 

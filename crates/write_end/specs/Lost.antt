@@ -8,21 +8,21 @@ use Rattle.oplog_entry.specs.pm_model.Words.{Words}
 use Rattle.oplog_entry.specs.layout_model.Journal.{IsSound, journaled}
 use Rattle.oplog_entry.specs.layout_model.declared.lines.Draft.{Draft}
 use Rattle.oplog_entry.specs.image_model.Volume.{Volume}
-use Rattle.live_model.specs.Flying.{IsOut}
-use Rattle.write_jobs.specs.Blocks.{AreOut}
+use Rattle.in_place.specs.live_model.Flying.{IsOut}
+use Rattle.in_place.specs.live_model.write_jobs.Blocks.{AreOut}
 use Rattle.in_place.specs.k_split_laws.list_laws.Members.{In}
 use Rattle.in_place.specs.k_split_laws.posix_types.declared.call.Mode.{Mode}
 use Rattle.in_place.specs.k_split_laws.posix_types.declared.item.Item.{Item}
-use Rattle.write_plan.specs.eof_laws.log_checkpoint.posix_laws.Puts.{PutsWhole}
+use Rattle.in_place.specs.write_plan.eof_laws.log_checkpoint.posix_laws.Puts.{PutsWhole}
 use Rattle.in_place.specs.k_split_laws.posix_spec.Run.{Unfinished, run}
 use Rattle.in_place.specs.k_split_laws.posix_spec.State.{State}
-use Rattle.write_jobs.specs.world_image_laws.Back.{calls_in_log, IsPutBack}
-use Rattle.write_jobs.specs.world_image_laws.Promised.{IsKept}
-use Rattle.write_plan.specs.eof_laws.log_checkpoint.world_model.Lines.{IsClaimedLine}
-use Rattle.write_plan.specs.eof_laws.log_checkpoint.world_model.Jobs.{HoldsWhole, Job}
-use Rattle.write_jobs.specs.world_image_laws.LentLaws.{AreFound}
-use Rattle.live_model.specs.Standing.{AreJobsOf, AreLinesLent, AreOfTwoThreads, HasItsBlocks, IsSpellable, Kept, JobOut}
-use Rattle.write_plan.specs.eof_laws.log_checkpoint.world_step_laws.Worlds.{IsWorld}
+use Rattle.in_place.specs.live_model.write_jobs.world_image_laws.Back.{calls_in_log, IsPutBack}
+use Rattle.in_place.specs.live_model.write_jobs.world_image_laws.Promised.{IsKept}
+use Rattle.in_place.specs.write_plan.eof_laws.log_checkpoint.world_model.Lines.{IsClaimedLine}
+use Rattle.in_place.specs.write_plan.eof_laws.log_checkpoint.world_model.Jobs.{HoldsWhole, Job}
+use Rattle.in_place.specs.live_model.write_jobs.world_image_laws.LentLaws.{AreFound}
+use Rattle.in_place.specs.live_model.Standing.{AreJobsOf, AreLinesLent, AreOfTwoThreads, HasItsBlocks, IsSpellable, Kept, JobOut}
+use Rattle.in_place.specs.write_plan.eof_laws.log_checkpoint.world_step_laws.Worlds.{IsWorld}
 use Rattle.write_end.specs.Blocks.{AreHome}
 
 -- A job whose finish claimed a slot has its blocks at home, and whatever image is taken they hold what is found of it; any other one has

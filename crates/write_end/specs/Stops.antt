@@ -3,18 +3,18 @@ use Rattle.std.specs.Prelude.{◌≡◌, ℕ, Bool, List, length, Ok}
 use Rattle.oplog_entry.specs.pm_model.declared.Cell.{Cell}
 use Rattle.oplog_entry.specs.pm_model.Frames.{SameLent}
 use Rattle.oplog_entry.specs.layout_model.Places.{Geometry}
-use Rattle.write_plan.specs.eof_laws.log_checkpoint.file_overlay.declared.runs.Run.{Run}
-use Rattle.write_plan.specs.eof_laws.log_checkpoint.file_table.Files.{Files}
-use Rattle.write_plan.specs.eof_laws.log_checkpoint.fsync_relink.Publishes.{IsPublishDone, IsPublishStopped}
+use Rattle.in_place.specs.write_plan.eof_laws.log_checkpoint.file_overlay.declared.runs.Run.{Run}
+use Rattle.in_place.specs.write_plan.eof_laws.log_checkpoint.file_table.Files.{Files}
+use Rattle.in_place.specs.write_plan.eof_laws.log_checkpoint.fsync_relink.Publishes.{IsPublishDone, IsPublishStopped}
 use Rattle.in_place.specs.k_split_laws.k_journal.declared.outcomes.Commit.{Commit}
 use Rattle.in_place.specs.k_split_laws.k_split_model.View.{View}
 use Rattle.in_place.specs.k_split_laws.k_split.declared.faults.KFault.{KFault}
-use Rattle.write_plan.specs.eof_laws.log_checkpoint.Gathers.{IsGatherAnswer}
+use Rattle.in_place.specs.write_plan.eof_laws.log_checkpoint.Gathers.{IsGatherAnswer}
 use Rattle.in_place.specs.k_split_laws.Left.{IsLeftOf}
 use Rattle.in_place.specs.k_split_laws.posix_tables.Open.{Tables}
 use Rattle.in_place.specs.k_split_laws.posix_spec.State.{State}
-use Rattle.write_plan.specs.eof_laws.log_checkpoint.staging_files.Keeps.{Staged}
-use Rattle.live_model.specs.Standing.{Kept, StandsAt}
+use Rattle.in_place.specs.write_plan.eof_laws.log_checkpoint.staging_files.Keeps.{Staged}
+use Rattle.in_place.specs.live_model.Standing.{Kept, StandsAt}
 
 -- the same words are lent, of as many
 pub record KeepsOut (d e : List Cell) : Type 0 where

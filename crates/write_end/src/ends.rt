@@ -17,6 +17,5 @@ mod placing;
 
 pub use finishing::finish_write;
 pub use giving_up::give_up_write;
+pub use in_place::{move_by, settle_blocks};
 pub use placing::place_front;
-pub use write_jobs::settle_blocks;
-pub use write_plan::move_by;

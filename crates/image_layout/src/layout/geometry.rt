@@ -1,11 +1,11 @@
 //! The numbers of an image, and the places of its lines and regions.
 ghost use Rattle.std.specs.Prelude.{◌≡◌, ◌+◌, ◌<◌, ◌≤◌, ◌↔◌, IsSome, IfSome, nat_le};
-ghost use Rattle.block_counts.specs.Counts.{reserve_for};
+ghost use Rattle.layout_model.specs.block_counts.Counts.{reserve_for};
 ghost use Rattle.layout_model.specs.PlaceLaws.{AreApart};
 ghost use Rattle.layout_model.specs.Places.{Geometry, IsGeometry, blocks_of_lines, data_blocks, first_data, name_block, log_block, nodes, state_line, record_line, inode_line, name_line, log_line};
 ghost use Rattle.image_layout.specs.Numbers.{default_numbers, numbered};
 
-use block_counts::reserve_for;
+use layout_model::reserve_for;
 use posix_types::Shape;
 use std::marker::Model;
 

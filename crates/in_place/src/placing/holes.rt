@@ -1,21 +1,20 @@
 //! Holes of a file get blocks.
 ghost use Rattle.std.specs.Prelude.{◌≡◌, ◌+◌, ◌^◌, ◌<◌, ◌≤◌, ◌&&◌, true, length, is_none, Ok};
-ghost use Rattle.k_split_laws.specs.pm_model.Powers.{is_on, Steps};
+ghost use Rattle.live_step_laws.specs.k_split_laws.pm_model.Powers.{is_on, Steps};
 ghost use Rattle.live_step_laws.specs.block_counts.Counts.{blocks_for};
-ghost use Rattle.k_split_laws.specs.extent_model.Extents.{disk_at};
+ghost use Rattle.live_step_laws.specs.k_split_laws.extent_model.Extents.{disk_at};
 ghost use Rattle.write_plan.specs.file_overlay.Runs.{staged_at};
 ghost use Rattle.write_plan.specs.live_model.file_table.Files.{size_in};
-ghost use Rattle.k_split_laws.specs.layout_model.declared.lines.Kind.TheVariants.{File};
-ghost use Rattle.k_split_laws.specs.image_model.Volume.{inode};
-ghost use Rattle.k_split_laws.specs.k_split.MapChanges.{free_blocks_in};
+ghost use Rattle.live_step_laws.specs.k_split_laws.layout_model.declared.lines.Kind.TheVariants.{File};
+ghost use Rattle.live_step_laws.specs.k_split_laws.image_model.Volume.{inode};
+ghost use Rattle.live_step_laws.specs.k_split_laws.k_split.MapChanges.{free_blocks_in};
 ghost use Rattle.in_place.specs.Holes.{absent_count, HasRuns, holes_need, IsHolesAnswer, IsHolesPaid, IsUnstaged};
 
 use crate::placing::laws;
 use crate::tails::FileTable;
 use extent_map::ExtentMap;
 use file_overlay::Overlay;
-use k_split::{KFault, KSplit};
-use live_step_laws::Staging;
+use live_step_laws::{KFault, KSplit, Staging};
 use pm_lines::Power;
 use std::alloc::{AllocError, Global};
 

@@ -1,19 +1,19 @@
 //! Bytes of a call are written where they lie.
 ghost use Rattle.std.specs.Prelude.{◌≡◌, ◌+◌, ◌*◌, ◌%◌, ◌<◌, ◌≤◌, ℕ, true, false, length};
-ghost use Rattle.k_split_laws.specs.pm_model.Powers.{is_on, Steps};
+ghost use Rattle.live_step_laws.specs.k_split_laws.pm_model.Powers.{is_on, Steps};
 ghost use Rattle.live_step_laws.specs.block_counts.declared.TheConstants.{LONGEST_FILE};
 ghost use Rattle.in_place.specs.Gaps.{IsClearPaid};
-ghost use Rattle.k_split_laws.specs.k_journal.Commits.{TakesAStep};
-ghost use Rattle.k_split_laws.specs.block_io.Overwrites.{blocks_reached};
-ghost use Rattle.k_split_laws.specs.k_split.Bytes.{MayWriteBytes};
-ghost use Rattle.k_split_laws.specs.k_split.Loans.{MayLend};
+ghost use Rattle.live_step_laws.specs.k_split_laws.k_journal.Commits.{TakesAStep};
+ghost use Rattle.live_step_laws.specs.k_split_laws.block_io.Overwrites.{blocks_reached};
+ghost use Rattle.live_step_laws.specs.k_split_laws.k_split.Bytes.{MayWriteBytes};
+ghost use Rattle.live_step_laws.specs.k_split_laws.k_split.Loans.{MayLend};
 ghost use Rattle.in_place.specs.Zeros.{staged_place};
 ghost use Rattle.in_place.specs.Placing.{CanPlace, IsOnePiece, IsPieceAnswer, IsPlaceAnswer};
 
 use crate::placing::holes::unstaged_from;
 use crate::tails::FileTable;
 use k_journal::Commit;
-use k_split::KSplit;
+use live_step_laws::KSplit;
 use pm_lines::Power;
 
 // How many of `count` bytes from byte `at` of a file on can be written at once: those of one staged block, or those up to

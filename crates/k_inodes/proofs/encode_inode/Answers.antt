@@ -1,7 +1,7 @@
 -- the law of the definitions, at fields of their widths
 use Rattle.std.proofs.Common.{◌∙◌, ap}
-use Rattle.layout_model.specs.Lines.{decode_inode}
-use Rattle.layout_model.specs.LineLaws.{decode_inode-encode_inode}
+use Rattle.image_layout.specs.layout_model.Lines.{decode_inode}
+use Rattle.image_layout.specs.layout_model.LineLaws.{decode_inode-encode_inode}
 use Rattle.k_inodes.proofs.encode_inode.Goals as goal
 
 pub returns-clause-read : goal.returns-clause-read

@@ -1,5 +1,5 @@
 -- the laws of the definitions
-use Rattle.layout_model.specs.LineLaws.{decode_inode-encode_inode, IsInodeLine-decode_inode}
+use Rattle.image_layout.specs.layout_model.LineLaws.{decode_inode-encode_inode, IsInodeLine-decode_inode}
 use Rattle.k_inodes.proofs.inode_lines_are_exact.Goals as goal
 
 pub returns-clause-read : goal.returns-clause-read

@@ -1,12 +1,12 @@
 //! The table of the sizes of all files.
 ghost use Rattle.std.specs.Prelude.{◌≡◌, ◌≤◌, IfOk};
-ghost use Rattle.eof_laws.specs.layout_model.block_counts.declared.TheConstants.{LONGEST_FILE};
-ghost use Rattle.eof_laws.specs.image_model.Volume.{inode};
+ghost use Rattle.world_view_laws.specs.eof_laws.layout_model.block_counts.declared.TheConstants.{LONGEST_FILE};
+ghost use Rattle.world_view_laws.specs.eof_laws.image_model.Volume.{inode};
 ghost use Rattle.log_replay.specs.Sheds.{IsAtRest};
 ghost use Rattle.round_laws.specs.Sizes.{HasSizesOf};
 
-use eof_laws::{FileTable, KSplit};
 use std::alloc::{AllocError, Global};
+use world_view_laws::{FileTable, KSplit};
 
 // The size of an inode; 0 of a free one.
 fn size_at(k: &KSplit, ino: u32) -> u64

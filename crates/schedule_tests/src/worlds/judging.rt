@@ -1,7 +1,7 @@
 //! What a loss leaves is mounted again, with each choice of what the medium has, and judged.
 ghost use Rattle.std.specs.Prelude.{◌≢◌};
 ghost use Rattle.posix_types.specs.declared.call.Mode.{Mode};
-ghost use Rattle.run_laws.specs.pm_model.Cells.{AllHome};
+ghost use Rattle.split_machine.specs.run_laws.pm_model.Cells.{AllHome};
 
 use crate::worlds::moments::is_caller;
 use crash_judge::judge;

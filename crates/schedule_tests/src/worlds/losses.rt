@@ -1,14 +1,13 @@
 //! The power goes between two events, and what comes behind it: jobs finish or are given up, and the crash.
 ghost use Rattle.std.specs.Prelude.{◌<◌, IfOk, IfSome, IsSome, length};
-ghost use Rattle.run_laws.specs.Between.{Between, CanCrash};
-ghost use Rattle.run_laws.specs.pm_model.Cells.{AllHome};
+ghost use Rattle.split_machine.specs.run_laws.Between.{Between, CanCrash};
+ghost use Rattle.split_machine.specs.run_laws.pm_model.Cells.{AllHome};
 ghost use Rattle.split_machine.specs.Events.{seen};
 ghost use Rattle.schedule_tests.specs.Losses.{GivesWork, IsAfterLoss, LosesWork, MayFinish, MayGiveUp};
 
 use pm_lines::Power;
 use posix_types::Who;
-use run_laws::{RoundLog, Work};
-use split_machine::{Crashed, Ended, Finished, Out, World, crash, place_of};
+use split_machine::{Crashed, Ended, Finished, Out, RoundLog, Work, World, crash, place_of};
 use std::alloc::Global;
 use test_kit::RowError;
 

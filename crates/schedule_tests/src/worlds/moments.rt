@@ -2,9 +2,9 @@
 ghost use Rattle.std.specs.Prelude.{◌≡◌, ◌≢◌, ◌%◌, ◌*◌, ◌<◌, ◌^◌, true, length, IfOk};
 ghost use Rattle.command_line.specs.pm_model.Cells.{AllSingle};
 ghost use Rattle.posix_types.specs.declared.call.Mode.{Mode};
-ghost use Rattle.run_laws.specs.posix_spec.Scripted.{IsSetUp};
-ghost use Rattle.run_laws.specs.world_view_laws.Views.{HasNone};
-ghost use Rattle.run_laws.specs.Held.{nothing_out};
+ghost use Rattle.split_machine.specs.run_laws.posix_spec.Scripted.{IsSetUp};
+ghost use Rattle.split_machine.specs.run_laws.world_view_laws.Views.{HasNone};
+ghost use Rattle.split_machine.specs.run_laws.Held.{nothing_out};
 ghost use Rattle.split_machine.specs.run_laws.Runs.{IsFirst};
 ghost use Rattle.split_machine.specs.world_view_laws.Starts.{AreInLimits};
 ghost use Rattle.split_machine.specs.Events.{seen, IsAble, IsUnderWay};
@@ -12,8 +12,7 @@ ghost use Rattle.split_machine.specs.Events.{seen, IsAble, IsUnderWay};
 use command_line::{read_script, scripts_are_spelled, scripts_are_within_limits};
 use pm_lines::{Pm, Power};
 use posix_types::{Mode, Scripts, Who};
-use run_laws::Work;
-use split_machine::{Acted, Begun, Out, Ready, World, caller_event, open_round};
+use split_machine::{Acted, Begun, Out, Ready, Work, World, caller_event, open_round};
 use std::alloc::Global;
 use test_kit::{RowError, small_number};
 

@@ -1,7 +1,7 @@
 //! A row is done, line by line.
 ghost use Rattle.std.specs.Prelude.{◌≡◌, false, IfOk};
-ghost use Rattle.run_laws.specs.Between.{CanCrash};
-ghost use Rattle.run_laws.specs.Held.{nothing_out};
+ghost use Rattle.split_machine.specs.run_laws.Between.{CanCrash};
+ghost use Rattle.split_machine.specs.run_laws.Held.{nothing_out};
 ghost use Rattle.split_machine.specs.run_laws.Runs.{IsFirst};
 ghost use Rattle.split_machine.specs.Events.{seen, IsUnderWay};
 ghost use Rattle.schedule_tests.specs.Losses.{IsAfterLoss, IsAtMoment};

@@ -9,13 +9,12 @@ ghost use Rattle.world_begins.specs.Turns.{IsTurn};
 
 use crate::laws;
 use crate::turns::turns::{end_round, lose_call, needs_now};
-use call_laws::{WriteBegun, begin_write};
+use call_laws::{WriteBegun, begin_write, move_by};
 use pm_lines::Power;
 use posix_tables::outcomes::answer;
 use posix_types::{Call, Data, Handle, Reply, Who};
 use std::alloc::Global;
 use world_parts::{Begun, JobOut, NoMemory, Over, Parts, add};
-use write_plan::move_by;
 
 /// A write, as its call says it.
 #[derive(Clone, Copy)]

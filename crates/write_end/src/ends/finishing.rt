@@ -1,17 +1,16 @@
 //! A logged write finishes.
 ghost use Rattle.std.specs.Prelude.{◌≡◌, ◌<◌, [], ◌∷◌, ◌++◌, length, vec_len, vec_capacity};
-ghost use Rattle.write_jobs.specs.Loans.{ComeBack};
-ghost use Rattle.write_plan.specs.file_table.Files.{runs_in, ChangesFile};
-ghost use Rattle.live_model.specs.Overlays.{run_of};
+ghost use Rattle.in_place.specs.live_model.write_jobs.Loans.{ComeBack};
+ghost use Rattle.in_place.specs.write_plan.file_table.Files.{runs_in, ChangesFile};
+ghost use Rattle.in_place.specs.live_model.Overlays.{run_of};
 ghost use Rattle.write_end.specs.Ends.{CanFinish, HasJob, HasWrite, LeavesFinished};
 ghost use Rattle.write_end.specs.Landing.{HasLanded};
 ghost use Rattle.posix_types.specs.declared.call.Mode.{Mode};
 
 use file_overlay::Run;
+use in_place::{FileTable, FilledJob, KSplit, OpenFiles, move_by, settle_blocks};
 use layout_model::Draft;
 use posix_types::Call;
-use write_jobs::{FilledJob, KSplit, settle_blocks};
-use write_plan::{FileTable, OpenFiles, move_by};
 
 // The run of an entry.
 fn run_of(draft: &Draft) -> Run

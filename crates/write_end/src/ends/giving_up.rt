@@ -1,13 +1,12 @@
 //! A logged write is given up.
 ghost use Rattle.std.specs.Prelude.{◌≡◌, ◌+◌, length};
-ghost use Rattle.write_jobs.specs.Loans.{ComeBack};
-ghost use Rattle.live_model.specs.staging_files.GivesUp.{IsGivenBack};
-ghost use Rattle.live_model.specs.Standing.{reserved_run};
+ghost use Rattle.in_place.specs.live_model.write_jobs.Loans.{ComeBack};
+ghost use Rattle.in_place.specs.live_model.staging_files.GivesUp.{IsGivenBack};
+ghost use Rattle.in_place.specs.live_model.Standing.{reserved_run};
 ghost use Rattle.write_end.specs.Ends.{CanGiveUp, HasJob, LeavesGivenUp};
 
+use in_place::{FilledJob, KSplit, StageRun, Staging, settle_blocks};
 use layout_model::Draft;
-use live_model::{StageRun, Staging};
-use write_jobs::{FilledJob, KSplit, settle_blocks};
 
 // The staged run of an entry.
 fn stage_run_of(draft: &Draft) -> StageRun

@@ -1,19 +1,17 @@
 //! The front of a landed write is written in place.
 ghost use Rattle.std.specs.Prelude.{◌≡◌, ◌≤◌, ◌^◌, true};
 ghost use Rattle.posix_types.specs.declared.call.Call.{Call};
-ghost use Rattle.write_jobs.specs.pm_model.Powers.{is_on, Steps};
-ghost use Rattle.write_jobs.specs.world_image_laws.world_model.Jobs.{put_bytes_of};
+ghost use Rattle.in_place.specs.live_model.write_jobs.pm_model.Powers.{is_on, Steps};
+ghost use Rattle.in_place.specs.live_model.write_jobs.world_image_laws.world_model.Jobs.{put_bytes_of};
 ghost use Rattle.in_place.specs.Placing.{CanPlace};
 ghost use Rattle.in_place.specs.Gaps.{IsClearPaid};
 ghost use Rattle.write_end.specs.Landing.{front_bytes, front_end, front_start, HasFront, IsFrontAnswer};
 
-use in_place::put_in_place;
+use in_place::{FileTable, KSplit, put_in_place};
 use k_journal::Commit;
 use layout_model::Draft;
 use pm_lines::Power;
 use posix_types::Call;
-use write_jobs::KSplit;
-use write_plan::FileTable;
 
 // The bytes that a write puts; other calls put none.
 fn put_bytes(call: &Call) -> &[u8]

@@ -1,22 +1,22 @@
 //! The end of a file is zeroed in place.
 ghost use Rattle.std.specs.Prelude.{◌≡◌, ◌+◌, ◌/◌, ◌%◌, ◌^◌, ◌<◌, ◌≤◌, ℕ, true, false, length, replicate, take, IsSome};
-ghost use Rattle.k_split_laws.specs.pm_model.Powers.{is_on, Steps};
-ghost use Rattle.k_split_laws.specs.layout_model.declared.lines.Kind.TheVariants.{File};
-ghost use Rattle.k_split_laws.specs.image_model.Volume.{inode};
-ghost use Rattle.k_split_laws.specs.extent_model.Extents.{disk_at};
+ghost use Rattle.live_step_laws.specs.k_split_laws.pm_model.Powers.{is_on, Steps};
+ghost use Rattle.live_step_laws.specs.k_split_laws.layout_model.declared.lines.Kind.TheVariants.{File};
+ghost use Rattle.live_step_laws.specs.k_split_laws.image_model.Volume.{inode};
+ghost use Rattle.live_step_laws.specs.k_split_laws.extent_model.Extents.{disk_at};
 ghost use Rattle.write_plan.specs.live_model.file_table.Files.{size_in};
-ghost use Rattle.k_split_laws.specs.k_split.Bytes.{zeros_behind};
+ghost use Rattle.live_step_laws.specs.k_split_laws.k_split.Bytes.{zeros_behind};
 ghost use Rattle.write_plan.specs.eof_laws.Ends.{FilesEnd};
 ghost use Rattle.write_plan.specs.live_model.data_route.Writes.{cleans};
 ghost use Rattle.in_place.specs.Zeros.{block_end, staged_place};
-ghost use Rattle.k_split_laws.specs.k_split.Loans.{MayLend};
+ghost use Rattle.live_step_laws.specs.k_split_laws.k_split.Loans.{MayLend};
 ghost use Rattle.in_place.specs.Gaps.{block_start, HasFile, IsCleared, IsClearPaid, IsZeroed};
 
 use crate::tails::laws;
 use crate::tails::zeros::FileTable;
 use extent_map::ExtentMap;
 use k_journal::Commit;
-use k_split::KSplit;
+use live_step_laws::KSplit;
 use pm_lines::Power;
 
 // How many bytes of a file there are from byte `from` to the end of its block; none of a hole.

@@ -1,5 +1,5 @@
 use Rattle.std.proofs.Common.{arith, refl, ap, ◌∙◌}
-use Rattle.image_layout.specs.pm_model.Words.{word_at, with_line}
+use Rattle.k_inodes.specs.image_layout.pm_model.Words.{word_at, with_line}
 use Rattle.k_reading.proofs.LineWords.{words-put}
 use Rattle.k_reading.proofs.fresh.put_line.Goals as goal
 

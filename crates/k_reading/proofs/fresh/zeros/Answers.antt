@@ -1,7 +1,7 @@
 use Rattle.std.proofs.Common.{◌≡◌, ◌+◌, ◌*◌, ◌++◌, replicate, ap, ◌∙◌, arith}
 use Rattle.std.proofs.Math.Path.{fun_ext}
 use Rattle.std.proofs.lemmas.List.{replicate-append-replicate}
-use Rattle.image_layout.specs.pm_model.Words.{word_at}
+use Rattle.k_inodes.specs.image_layout.pm_model.Words.{word_at}
 use Rattle.k_reading.proofs.LineWords.{words-zeros}
 use Rattle.k_reading.proofs.fresh.zeros.Goals as goal
 

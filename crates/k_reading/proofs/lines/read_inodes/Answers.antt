@@ -1,7 +1,7 @@
 use Rattle.std.proofs.Common.{sym, ◌∙◌, ◌∷◌, [], ◌++◌, arith}
 use Rattle.std.proofs.lemmas.List.FromFn.{map-range_with_len_more}
-use Rattle.image_layout.specs.pm_model.Images.{words_of}
-use Rattle.image_model.specs.Volume.{inode_or_free}
+use Rattle.k_inodes.specs.image_layout.pm_model.Images.{words_of}
+use Rattle.map_chain.specs.image_model.Volume.{inode_or_free}
 use Rattle.k_reading.proofs.lines.read_inodes.Goals as goal
 
 pub loop-ino-preserved : goal.loop-ino-preserved

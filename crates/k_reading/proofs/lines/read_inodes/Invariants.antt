@@ -1,7 +1,7 @@
 use Rattle.std.proofs.Common.{◌≡◌, map}
 use Rattle.std.specs.List.{range_with_len}
-use Rattle.image_layout.specs.pm_model.Images.{words_of}
-use Rattle.image_model.specs.Volume.{inode_or_free}
+use Rattle.k_inodes.specs.image_layout.pm_model.Images.{words_of}
+use Rattle.map_chain.specs.image_model.Volume.{inode_or_free}
 use Rattle.k_reading.proofs.lines.read_inodes.Given as goal
 
 -- the inodes of the lines so far

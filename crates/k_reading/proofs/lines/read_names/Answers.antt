@@ -1,8 +1,8 @@
 use Rattle.std.proofs.Common.{◌≡◌, sym, ap, ◌∙◌, subst, arith, ◌+◌, ◌<◌}
 use Rattle.k_inodes.specs.layout_model.Names.{Rows}
-use Rattle.image_layout.specs.layout_model.Places.{Geometry}
-use Rattle.image_model.specs.Volume.{volume}
-use Rattle.image_layout.specs.pm_model.Images.{words_of}
+use Rattle.k_inodes.specs.image_layout.layout_model.Places.{Geometry}
+use Rattle.map_chain.specs.image_model.Volume.{volume}
+use Rattle.k_inodes.specs.image_layout.pm_model.Images.{words_of}
 use Rattle.k_reading.proofs.NameRows.{AreRead, row-volume, count-volume, read-none, read-name, read-free, read-all, name-new}
 use Rattle.k_reading.proofs.lines.read_names.Goals as goal
 use Rattle.k_reading.proofs.lines.read_names.Goals.{in-Some+in_ok-set, in_default}

@@ -1,5 +1,5 @@
-use Rattle.image_layout.specs.pm_model.Images.{words_of}
-use Rattle.image_model.specs.Volume.{volume}
+use Rattle.k_inodes.specs.image_layout.pm_model.Images.{words_of}
+use Rattle.map_chain.specs.image_model.Volume.{volume}
 use Rattle.k_reading.proofs.NameRows.{AreRead}
 use Rattle.k_reading.proofs.lines.read_names.Given as goal
 

@@ -1,5 +1,5 @@
 use Rattle.std.proofs.Common.{length}
-use Rattle.image_layout.specs.pm_model.Images.{words_of}
+use Rattle.k_inodes.specs.image_layout.pm_model.Images.{words_of}
 use Rattle.k_reading.specs.Tables.{AreFound}
 use Rattle.k_reading.proofs.maps.read_maps.Given as goal
 

@@ -1,5 +1,5 @@
 use Rattle.std.proofs.Common.{◌≡◌, ◌+◌, ◌*◌, ◌<◌, ℕ}
-use Rattle.image_model.specs.Chains.{chain_word}
+use Rattle.volume_laws.specs.image_model.Chains.{chain_word}
 use Rattle.pm_lines.specs.pm_model.Images.{words_of}
 use Rattle.map_chain.proofs.reading.is_block.Given as goal
 

@@ -1,6 +1,6 @@
 use Rattle.std.proofs.Common.{◌≡◌, ◌+◌, ◌*◌, ◌<◌, ℕ}
-use Rattle.image_model.specs.Chains.{chain_word}
-use Rattle.image_model.specs.Placed.{block_at, part_at}
+use Rattle.volume_laws.specs.image_model.Chains.{chain_word}
+use Rattle.volume_laws.specs.image_model.Placed.{block_at, part_at}
 use Rattle.pm_lines.specs.pm_model.Images.{words_of}
 use Rattle.map_chain.proofs.reading.is_spelled.Given as goal
 

@@ -1,6 +1,6 @@
 use Rattle.std.proofs.Common.{◌≡◌, ◌++◌, ◌-◌, length}
-use Rattle.image_model.specs.Chains.{blocks_from}
-use Rattle.image_model.specs.Placed.{AreInDevice}
+use Rattle.volume_laws.specs.image_model.Chains.{blocks_from}
+use Rattle.volume_laws.specs.image_model.Placed.{AreInDevice}
 use Rattle.pm_lines.specs.pm_model.Images.{words_of}
 use Rattle.map_chain.proofs.reading.linked_blocks.Given as goal
 

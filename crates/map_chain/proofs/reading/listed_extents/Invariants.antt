@@ -1,5 +1,5 @@
 use Rattle.std.proofs.Common.{◌≡◌, length}
-use Rattle.image_model.specs.Listed.{AreListed}
+use Rattle.volume_laws.specs.image_model.Listed.{AreListed}
 use Rattle.pm_lines.specs.pm_model.Images.{words_of}
 use Rattle.map_chain.proofs.reading.listed_extents.Given as goal
 

@@ -1,6 +1,6 @@
 use Rattle.std.proofs.Common.{rules}
 use Rattle.pm_lines.specs.pm_model.Images.{words_of}
-use Rattle.image_model.specs.Placed.{StandsIn}
+use Rattle.volume_laws.specs.image_model.Placed.{StandsIn}
 use Rattle.map_chain.proofs.Found.{not_spelled, map_found, map_missed}
 use Rattle.map_chain.proofs.reading.map_in.Goals as goal
 

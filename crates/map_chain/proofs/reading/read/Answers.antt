@@ -2,7 +2,7 @@ use Rattle.std.proofs.Common.{length, arith, rules}
 use Rattle.extent_map.specs.extent_model.Counts.{length-le}
 use Rattle.pm_lines.specs.pm_model.Images.{words_of}
 use Rattle.volume_laws.specs.ChainLaws.{chain-map, chain-distinct, has_one_chain}
-use Rattle.image_model.specs.Standing.{IsChain}
+use Rattle.volume_laws.specs.image_model.Standing.{IsChain}
 use Rattle.map_chain.proofs.reading.read.Goals as goal
 
 pub returns-then-extents-gt-FILE_BLOCKS-clause-none : goal.returns-then-extents-gt-FILE_BLOCKS-clause-none

@@ -3,7 +3,7 @@ use Rattle.std.proofs.Common.{◌≡◌, ◌≢◌, ◌≤◌, ◌<◌, ◌+◌,
 use Rattle.std.proofs.lemmas.Bool.{ne_eqb}
 use Rattle.std.proofs.lemmas.List.{get_or-replicate, length-set}
 use Rattle.extent_map.specs.extent_model.declared.extent_words.Extent.{Extent}
-use Rattle.image_model.specs.Chains.{chain_word}
+use Rattle.volume_laws.specs.image_model.Chains.{chain_word}
 use Rattle.volume_laws.specs.ChainLaws.{extent_word-past}
 use Rattle.map_chain.proofs.words.line_words.Goals as goal
 

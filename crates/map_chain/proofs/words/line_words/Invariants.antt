@@ -1,5 +1,5 @@
 use Rattle.std.proofs.Common.{◌≡◌, ◌+◌, ◌*◌, ◌<◌, ℕ, get_or, length}
-use Rattle.image_model.specs.Chains.{chain_word}
+use Rattle.volume_laws.specs.image_model.Chains.{chain_word}
 use Rattle.map_chain.proofs.words.line_words.Given as goal
 
 -- the words before k are there

@@ -1,7 +1,7 @@
 use Rattle.std.proofs.Common.{◌≡◌, true, refl, arith, rules}
 use Rattle.pm_lines.specs.pm_model.Images.{Follows-same}
 use Rattle.pm_lines.specs.pm_model.Powers.{is_on}
-use Rattle.image_model.specs.Standing.{FitHalves}
+use Rattle.volume_laws.specs.image_model.Standing.{FitHalves}
 use Rattle.map_chain.specs.Writes.{MayWrite, SameOutside}
 use Rattle.map_chain.proofs.Frames.{follows, keeps, written}
 use Rattle.map_chain.proofs.writing.write.Goals as goal

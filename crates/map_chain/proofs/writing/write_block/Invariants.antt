@@ -1,5 +1,5 @@
 use Rattle.std.proofs.Common.{◌≡◌, ◌≢◌, ◌+◌, ◌*◌, ◌/◌, ◌%◌, ◌<◌, ◌≤◌, ℕ, true, length}
-use Rattle.image_model.specs.Chains.{chain_word}
+use Rattle.volume_laws.specs.image_model.Chains.{chain_word}
 use Rattle.pm_lines.specs.pm_model.declared.Cell.TheVariants.{Single}
 use Rattle.pm_lines.specs.pm_model.Cells.{cell, is_lent, fenced}
 use Rattle.pm_lines.specs.pm_model.Powers.{is_on, Steps}

@@ -1,8 +1,8 @@
 use Rattle.std.proofs.Common.{◌≡◌, ◌≢◌, ◌+◌, ◌%◌, sym, ◌∙◌, ap, arith, ⊎_elim, rules}
 use Rattle.std.proofs.lemmas.Bool.{cases_eq}
 use Rattle.std.proofs.lemmas.Grind.{common_steps}
-use Rattle.image_model.specs.Chains.{chain_word}
-use Rattle.image_model.specs.Placed.{block_at, part_at}
+use Rattle.volume_laws.specs.image_model.Chains.{chain_word}
+use Rattle.volume_laws.specs.image_model.Placed.{block_at, part_at}
 use Rattle.pm_lines.specs.pm_model.declared.Cell.TheVariants.{Single}
 use Rattle.pm_lines.specs.pm_model.Cells.{fenced}
 use Rattle.map_chain.proofs.writing.write_blocks.Goals as goal

@@ -1,7 +1,7 @@
 use Rattle.std.specs.Prelude.{List}
 use Rattle.std.proofs.Common.{◌∙◌, arith, subst, sym}
-use Rattle.world_view_laws.specs.Losses.{MayCrash}
-use Rattle.world_view_laws.specs.write_jobs.Jobs.{FilledView, JobView}
+use Rattle.thread_laws.specs.world_view_laws.Losses.{MayCrash}
+use Rattle.thread_laws.specs.world_view_laws.write_jobs.Jobs.{FilledView, JobView}
 use Rattle.thread_laws.specs.MovesLaws.{AreFewActs}
 use Rattle.thread_laws.specs.Returned.{jobs_left}
 use Rattle.split_threads.proofs.Ending.{crashed_turns, unmounted_turns}

@@ -1,7 +1,7 @@
 use Rattle.std.specs.Prelude.{Ok}
 use Rattle.std.proofs.Common.{◌∙◌, ap, arith, subst}
-use Rattle.world_view_laws.specs.k_journal.declared.outcomes.Commit.{Commit}
-use Rattle.world_view_laws.specs.Views.{WorldView}
+use Rattle.thread_laws.specs.world_view_laws.k_journal.declared.outcomes.Commit.{Commit}
+use Rattle.thread_laws.specs.world_view_laws.Views.{WorldView}
 use Rattle.split_world.specs.world_parts.Answers.{IsCheckpoint}
 use Rattle.thread_laws.specs.MovesLaws.{AreFewActs}
 use Rattle.split_threads.proofs.Ending.{lost_turns}

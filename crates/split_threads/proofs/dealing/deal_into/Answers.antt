@@ -1,7 +1,7 @@
 use Rattle.std.specs.Prelude.{List, ℕ, refl}
 use Rattle.std.proofs.Common.{ap, arith, subst, sym}
 use Rattle.ruled_turn.specs.Passes.{PassView}
-use Rattle.world_view_laws.specs.posix_types.declared.call.Who.{Who}
+use Rattle.thread_laws.specs.world_view_laws.posix_types.declared.call.Who.{Who}
 use Rattle.thread_laws.specs.Hands.{HandView}
 use Rattle.split_threads.specs.declared.turns.Held.{Held}
 use Rattle.split_threads.specs.declared.working.Own.{Own}

@@ -1,8 +1,8 @@
 use Rattle.std.specs.Prelude.{ℕ, List}
 use Rattle.std.proofs.Common.{ap, subst, sym}
-use Rattle.world_view_laws.specs.pm_model.Cells.{is_single}
-use Rattle.world_view_laws.specs.pm_model.Parts.{Part}
-use Rattle.world_view_laws.specs.Rounds.{IsRoundBegun}
+use Rattle.thread_laws.specs.world_view_laws.pm_model.Cells.{is_single}
+use Rattle.thread_laws.specs.world_view_laws.pm_model.Parts.{Part}
+use Rattle.thread_laws.specs.world_view_laws.Rounds.{IsRoundBegun}
 use Rattle.split_threads.proofs.opening.open_log.Goals as goal
 
 pub open-requires-clause-single : goal.open-requires-clause-single

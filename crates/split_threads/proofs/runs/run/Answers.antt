@@ -1,5 +1,5 @@
 use Rattle.std.proofs.Common.{subst, sym}
-use Rattle.world_view_laws.specs.pm_model.Powers.{Supply}
+use Rattle.thread_laws.specs.world_view_laws.pm_model.Powers.{Supply}
 use Rattle.split_threads.specs.Rounds.{IsBetweenRounds, IsRoundDone}
 use Rattle.split_threads.specs.declared.closes.Turned.{Turned}
 use Rattle.split_threads.proofs.Turned.{first_between}

@@ -1,6 +1,6 @@
 use Rattle.std.specs.Prelude.{true}
 use Rattle.std.proofs.Common.{subst, sym}
-use Rattle.world_view_laws.specs.Views.{WorldView}
+use Rattle.thread_laws.specs.world_view_laws.Views.{WorldView}
 use Rattle.thread_laws.specs.Moves.{MayLeave, next_hand}
 use Rattle.thread_laws.specs.Works.{HasTold}
 use Rattle.split_threads.specs.Rules.{gone_hand}

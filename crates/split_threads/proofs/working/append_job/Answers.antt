@@ -3,7 +3,7 @@ use Rattle.std.proofs.Common.{arith, ◌∙◌, subst, sym, refl}
 use Rattle.oplog_tail.specs.Answers.{Answers}
 use Rattle.oplog_tail.specs.Logs.{capacity}
 use Rattle.oplog_tail.specs.declared.appends.Appended.{Appended}
-use Rattle.world_view_laws.specs.oplog_entry.layout_model.declared.lines.Draft.{Draft}
+use Rattle.thread_laws.specs.world_view_laws.oplog_entry.layout_model.declared.lines.Draft.{Draft}
 use Rattle.thread_laws.specs.Works.{HasEnded, HasTold}
 use Rattle.thread_laws.specs.declared.works.Worked.{Worked}
 use Rattle.split_threads.specs.Workers.{HasEndedWith}

@@ -1,7 +1,7 @@
 use Rattle.std.specs.Prelude.{refl}
 use Rattle.std.proofs.Common.{subst}
-use Rattle.round_laws.specs.layout_model.Places.{Geometry}
-use Rattle.round_laws.specs.StartsLaws.{HasNumbersOf}
+use Rattle.world_rounds.specs.round_laws.layout_model.Places.{Geometry}
+use Rattle.world_rounds.specs.round_laws.StartsLaws.{HasNumbersOf}
 use Rattle.split_world.proofs.Opening.{first_begun}
 use Rattle.split_world.proofs.starting.parts_with.Goals as goal
 

@@ -1,6 +1,6 @@
 use Rattle.std.specs.Prelude.{◌≡◌, ◌<◌, ℕ, [], length}
-use Rattle.eof_laws.specs.image_model.Volume.{inode}
-use Rattle.eof_laws.specs.file_table.Files.{runs_in, size_in}
+use Rattle.world_view_laws.specs.eof_laws.image_model.Volume.{inode}
+use Rattle.world_view_laws.specs.eof_laws.file_table.Files.{runs_in, size_in}
 use Rattle.round_laws.proofs.starts.sizes.table_of.Given as goal
 
 abbrev pub invariant-loop-ino : goal.invariant-loop-ino

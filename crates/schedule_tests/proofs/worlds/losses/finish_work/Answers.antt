@@ -1,5 +1,5 @@
 use Rattle.std.proofs.Common.{subst, sym}
-use Rattle.split_world.specs.world_parts.Answers.{IsFinished}
+use Rattle.split_machine.specs.split_world.world_parts.Answers.{IsFinished}
 use Rattle.schedule_tests.specs.Losses.{LosesWork, MayFinish}
 use Rattle.schedule_tests.proofs.worlds.losses.finish_work.Goals as goal
 

@@ -1,7 +1,7 @@
 use Rattle.std.specs.Prelude.{refl}
 use Rattle.command_line.specs.pm_model.Images.{words_of}
 use Rattle.split_machine.specs.image_model.Rules.{geometry_of}
-use Rattle.split_top.proofs.Beginnings.{begins-on}
+use Rattle.split_tables.proofs.split_top_proofs.Beginnings.{begins-on}
 use Rattle.schedule_tests.proofs.worlds.moments.mounted.Goals as goal
 
 pub mount-requires-clause-limits : goal.mount-requires-clause-limits

@@ -2,7 +2,7 @@ use Rattle.std.specs.Prelude.{Ok}
 use Rattle.std.proofs.Common.{subst}
 use Rattle.split_machine.specs.Events.{seen}
 use Rattle.split_machine.proofs.Begins.{lines_out}
-use Rattle.split_world.specs.world_parts.Answers.{IsBegun}
+use Rattle.split_machine.specs.split_world.world_parts.Answers.{IsBegun}
 use Rattle.schedule_tests.proofs.UnderWay.{waits_under_way}
 use Rattle.schedule_tests.proofs.worlds.moments.waits.Goals as goal
 

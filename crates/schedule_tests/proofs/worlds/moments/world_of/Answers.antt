@@ -1,6 +1,6 @@
 use Rattle.std.proofs.Common.{subst, sym}
 use Rattle.split_machine.specs.world_view_laws.Starts.{AreInLimits}
-use Rattle.split_top.proofs.Runnable.{scripts_are_runnable}
+use Rattle.split_tables.proofs.split_top_proofs.Runnable.{scripts_are_runnable}
 use Rattle.schedule_tests.proofs.worlds.moments.world_of.Goals as goal
 
 pub begun-requires-clause-limits : goal.begun-requires-clause-limits

@@ -1,6 +1,6 @@
 use Rattle.std.specs.Prelude.{◌^◌, ℕ, refl}
 use Rattle.std.proofs.Common.{◌∙◌, ap, sym, subst, arith}
-use Rattle.round_laws.specs.pm_model.Powers.{Steps, Supply}
+use Rattle.world_rounds.specs.round_laws.pm_model.Powers.{Steps, Supply}
 use Rattle.world_begins.specs.world_parts.in_flight.live_model.Standing.{JobOut}
 use Rattle.world_begins.specs.world_parts.world_view_laws.Begins.{IsFilledOut}
 use Rattle.world_begins.specs.world_parts.in_flight.world_image_laws.Starts.{has_setting}

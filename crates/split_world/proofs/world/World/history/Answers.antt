@@ -1,6 +1,6 @@
 use Rattle.std.proofs.Common.{◌≤◌, ◌∙◌, ap, length, subst}
-use Rattle.round_laws.specs.posix_spec.Run.{IsLegal}
-use Rattle.round_laws.specs.posix_spec.Scripted.{Scripted}
+use Rattle.world_rounds.specs.round_laws.posix_spec.Run.{IsLegal}
+use Rattle.world_rounds.specs.round_laws.posix_spec.Scripted.{Scripted}
 use Rattle.world_begins.specs.world_parts.world_view_laws.Views.{WorldView}
 use Rattle.split_world.proofs.world.World.history.Goals as goal
 

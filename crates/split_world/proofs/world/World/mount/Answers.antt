@@ -1,5 +1,5 @@
-use Rattle.round_laws.specs.pm_model.Images.{words_of}
-use Rattle.round_laws.specs.image_model.Rules.{geometry_of}
+use Rattle.world_rounds.specs.round_laws.pm_model.Images.{words_of}
+use Rattle.world_rounds.specs.round_laws.image_model.Rules.{geometry_of}
 use Rattle.split_world.proofs.world.World.mount.Goals as goal
 
 pub over-requires-clause-mounted : goal.over-requires-clause-mounted

@@ -1,16 +1,16 @@
 use Rattle.std.proofs.Common.{◌≡◌, ◌<◌, ◌≤◌, ◌+◌, ◌/◌, ◌++◌, ◌∷◌, [], ◌∙◌, ap, arith, ℕ, true, List, length, subst, sym}
-use Rattle.write_plan.specs.pm_model.Cells.{cell, is_lent}
-use Rattle.write_plan.specs.pm_model.Parts.{Part}
+use Rattle.in_place.specs.write_plan.pm_model.Cells.{cell, is_lent}
+use Rattle.in_place.specs.write_plan.pm_model.Parts.{Part}
 use Rattle.layout_model.specs.declared.lines.Draft.{Draft}
 use Rattle.layout_model.specs.block_counts.declared.TheConstants.{LONGEST_FILE}
 use Rattle.file_overlay.specs.declared.runs.Run.{Run}
-use Rattle.write_plan.specs.file_table.Files.{ChangesFile, runs_in}
-use Rattle.write_jobs.specs.world_image_laws.k_split_model.View.{View}
-use Rattle.live_model.specs.Overlays.{run_of}
+use Rattle.in_place.specs.write_plan.file_table.Files.{ChangesFile, runs_in}
+use Rattle.in_place.specs.live_model.write_jobs.world_image_laws.k_split_model.View.{View}
+use Rattle.in_place.specs.live_model.Overlays.{run_of}
 use Rattle.posix_types.specs.declared.call.Who.{Who}
-use Rattle.write_jobs.specs.Jobs.{loan_at}
-use Rattle.write_jobs.specs.Loans.{AreApart, ComeBack}
-use Rattle.write_plan.specs.Asks.{moved_by}
+use Rattle.in_place.specs.live_model.write_jobs.Jobs.{loan_at}
+use Rattle.in_place.specs.live_model.write_jobs.Loans.{AreApart, ComeBack}
+use Rattle.in_place.specs.write_plan.Asks.{moved_by}
 use Rattle.write_end.proofs.Asked.{finish_lands, may_lay, may_move_by}
 use Rattle.write_end.proofs.Ending.{loans_apart, loans_out}
 use Rattle.write_end.proofs.Landed.{landed_is_finished}

@@ -1,14 +1,14 @@
 use Rattle.std.proofs.Common.{◌≡◌, ◌<◌, ◌+◌, ◌/◌, ◌∙◌, ap, ℕ, true, List, length, subst, sym}
 use Rattle.std.specs.Prelude.{Contains}
-use Rattle.write_plan.specs.pm_model.Cells.{cell, is_lent}
-use Rattle.write_plan.specs.pm_model.Parts.{Part}
-use Rattle.write_jobs.specs.world_image_laws.k_split_model.View.{View}
-use Rattle.live_model.specs.staging_files.declared.runs.StageRun.{StageRun}
-use Rattle.live_model.specs.staging_files.GivesUp.{IsGivenBack}
-use Rattle.live_model.specs.staging_files.Keeps.{Staged}
-use Rattle.write_jobs.specs.Jobs.{loan_at}
-use Rattle.write_jobs.specs.Loans.{AreApart, ComeBack}
-use Rattle.live_model.specs.Standing.{reserved_run}
+use Rattle.in_place.specs.write_plan.pm_model.Cells.{cell, is_lent}
+use Rattle.in_place.specs.write_plan.pm_model.Parts.{Part}
+use Rattle.in_place.specs.live_model.write_jobs.world_image_laws.k_split_model.View.{View}
+use Rattle.in_place.specs.live_model.staging_files.declared.runs.StageRun.{StageRun}
+use Rattle.in_place.specs.live_model.staging_files.GivesUp.{IsGivenBack}
+use Rattle.in_place.specs.live_model.staging_files.Keeps.{Staged}
+use Rattle.in_place.specs.live_model.write_jobs.Jobs.{loan_at}
+use Rattle.in_place.specs.live_model.write_jobs.Loans.{AreApart, ComeBack}
+use Rattle.in_place.specs.live_model.Standing.{reserved_run}
 use Rattle.write_end.proofs.Ending.{loans_apart, loans_out}
 use Rattle.write_end.proofs.GivesUp.{give_up_leaves, one_fewer, run_out}
 use Rattle.write_end.proofs.ends.giving_up.give_up_write.Goals as goal

@@ -1,8 +1,8 @@
 use Rattle.std.proofs.Common.{◌≡◌, ◌∙◌, ◌/◌, List, ℕ, ap, arith, subst}
 use Rattle.std.specs.Prelude.{◌⊎◌}
 use Rattle.std.proofs.lemmas.List.{take-replicate}
-use Rattle.k_split_laws.specs.extent_model.Extents.{disk_at}
-use Rattle.k_split_laws.specs.k_split.Bytes.{IsOverwriteCut, IsOverwriteDone, tail_zeros, zeros_behind}
+use Rattle.live_step_laws.specs.k_split_laws.extent_model.Extents.{disk_at}
+use Rattle.live_step_laws.specs.k_split_laws.k_split.Bytes.{IsOverwriteCut, IsOverwriteDone, tail_zeros, zeros_behind}
 use Rattle.in_place.proofs.Writes.{lost_of}
 use Rattle.in_place.proofs.tails.gaps.gaps.zero_mapped.Goals as goal
 

@@ -2,7 +2,7 @@ use Rattle.std.proofs.Common.{◌≡◌, ◌∙◌, ◌-◌, ◌%◌, List, ℕ,
 use Rattle.std.specs.Prelude.{◌⊎◌}
 use Rattle.std.proofs.lemmas.List.{take-replicate}
 use Rattle.in_place.specs.Zeros.{staged_place}
-use Rattle.k_split_laws.specs.k_split.Bytes.{IsOverwriteCut, IsOverwriteDone, tail_zeros}
+use Rattle.live_step_laws.specs.k_split_laws.k_split.Bytes.{IsOverwriteCut, IsOverwriteDone, tail_zeros}
 use Rattle.in_place.proofs.Writes.{lost_of, staged_zeros}
 use Rattle.in_place.proofs.tails.gaps.gaps.zero_staged.Goals as goal
 

@@ -16,4 +16,4 @@ pub fn flights_come_and_go()
     ensures readable { FliesReadable }
 {}
 
-pub use crate::overlays::{Collection, Filled, FilledJob, Job, read_bytes, staged_words};
+pub use crate::overlays::{Collection, Filled, FilledJob, Job, StagedBytes, read_bytes};

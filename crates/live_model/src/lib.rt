@@ -21,7 +21,7 @@ mod standing;
 
 pub use flights::flights_come_and_go;
 pub use overlays::{
-    Collection, Filled, FilledJob, Job, read_bytes, staged_words, the_overlay_is_the_log,
+    Collection, Filled, FilledJob, Job, StagedBytes, read_bytes, the_overlay_is_the_log,
 };
 pub use standing::{
     Commit, FileTable, KSplit, StageFault, StageRun, Staging, put_lines, what_files_hold_is_the_sum,

@@ -17,4 +17,4 @@ pub fn the_overlay_is_the_log()
 {}
 
 pub use file_reads::{Collection, read_bytes};
-pub use write_jobs::{Filled, FilledJob, Job, staged_words};
+pub use write_jobs::{Filled, FilledJob, Job, StagedBytes};

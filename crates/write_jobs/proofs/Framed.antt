@@ -1,6 +1,7 @@
 -- New bytes between others, each by its place.
-use Rattle.std.specs.Prelude.{◌≡◌, ℕ, ◌+◌, ◌-◌, ◌*◌, ◌/◌, ◌%◌, ◌^◌, ◌<◌, true, cond, nat_lt, List, ◌++◌, drop, length, slice_index}
-use Rattle.std.proofs.Common.{arith, ap, ◌∙◌, sym}
+use Rattle.std.specs.Prelude.{◌≡◌, ◌⊎◌, ℕ, ◌+◌, ◌-◌, ◌*◌, ◌/◌, ◌%◌, ◌^◌, ◌<◌, ◌≤◌, true, cond, nat_lt, List, ◌++◌, drop, length, slice_index}
+use Rattle.std.proofs.Common.{arith, ap, ◌∙◌, sym, subst, inl, inr}
+use Rattle.std.proofs.lemmas.Bool.{cases_lt}
 use Rattle.std.proofs.lemmas.Bool.Decides.{nat_tests}
 use Rattle.std.proofs.lemmas.Grind.{same_number_lists}
 use Rattle.std.proofs.lemmas.List.{get_or-append_right, get_or_append_left, length-append}
@@ -35,6 +36,14 @@ module _ (front : List ℕ) (at : ℕ) (new back : List ℕ) where
   framed_back i k is =
       get_or-append_right (resized front at ++ new) back (at + length new) i 0 size (omega (arith, is))
       ∙ ap (slice_index back) (let same : i - (at + length new) ≡ k = omega (arith, is) in same)
+
+  -- they are bytes
+  pub framed_small : ((n : ℕ) → slice_index front n < 256) → ((n : ℕ) → slice_index new n < 256) → ((n : ℕ) → slice_index back n < 256) → (n : ℕ) → slice_index (framed front at new back) n < 256
+  framed_small small_front small_new small_back n = by (cases_lt n at) (cases_lt n (at + length new)) where
+    by : (n < at) ⊎ (at ≤ n) → (n < at + length new) ⊎ (at + length new ≤ n) → slice_index (framed front at new back) n < 256
+    by (inl low) either = subst (λ b. b < 256) (sym (framed_front n low)) (small_front n)
+    by (inr past) (inl inside) = subst (λ b. b < 256) (sym (framed_new n (n - at) (omega (arith, past)) (omega (arith, past, inside)))) (small_new (n - at))
+    by (inr past) (inr behind) = subst (λ b. b < 256) (sym (framed_back n (n - (at + length new)) (omega (arith, behind)))) (small_back (n - (at + length new)))
 
   -- words that spell so many of them spell the blocks
   pub spell_framed : (words : List ℕ) (count : ℕ) → length words ≡ 512 * count

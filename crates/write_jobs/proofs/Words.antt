@@ -1,8 +1,12 @@
--- The bytes of a word that was made of eight bytes.
-use Rattle.std.specs.Prelude.{◌≡◌, ◌<◌, ◌+◌, ◌/◌, ◌%◌, ◌^◌, ℕ, zero, suc, List, [], ◌∷◌, slice_index, refl}
+-- The bytes of a word that was made of eight bytes, and the words of bytes.
+use Rattle.std.specs.Prelude.{◌≡◌, ◌<◌, ◌+◌, ◌*◌, ◌/◌, ◌%◌, ◌^◌, ℕ, zero, suc, List, [], ◌∷◌, length, slice_index, refl}
 use Rattle.std.specs.Int.{from_le_bytes, to_le_bytes, w64}
-use Rattle.std.proofs.Common.{arith, ap, ◌∙◌, sym, get_or}
-use Rattle.std.proofs.lemmas.Nat.{le_bytes_8}
+use Rattle.std.proofs.Common.{arith, ap, ◌∙◌, sym, get_or, lit<}
+use Rattle.std.proofs.lemmas.List.FromFn.{get_or-map-range_with_len, length-map-range_with_len}
+use Rattle.std.proofs.lemmas.Nat.{from_le_bytes-to_le_bytes_8, le_bytes_8}
+use Rattle.pm_lines.specs.pm_model.Bytes.{word_at-bytes}
+use Rattle.pm_lines.specs.pm_model.Words.{word_at}
+use Rattle.write_jobs.specs.Contents.{words_in}
 
 byte_in : (n j : ℕ) → j < 8 → slice_index (to_le_bytes w64 n) j ≡ n / 256 ^ j % 256
 byte_in n zero below = omega arith
@@ -54,3 +58,30 @@ module _ (bytes : List ℕ) (at : ℕ) (small : (n : ℕ) → slice_index bytes 
   unfolding eight
   word_byte word j is below =
       sym (byte_in word j below) ∙ (λ i. slice_index (le_bytes_8 eight word refl all_small is i) j) ∙ at_place j below
+
+-- a word that has the eight bytes is the word there
+pub word_is : (bytes : List ℕ) (i word : ℕ) → word < 2 ^ 64 → ((j : ℕ) → j < 8 → word / 256 ^ j % 256 ≡ slice_index bytes (8 * i + j)) → word_at bytes i ≡ word
+word_is bytes i word fits is =
+    word_at-bytes bytes i
+    ∙ (λ k. from_le_bytes w64 (first k ∷ byte 1 (lit< tt) k ∷ byte 2 (lit< tt) k ∷ byte 3 (lit< tt) k ∷ byte 4 (lit< tt) k ∷ byte 5 (lit< tt) k ∷ byte 6 (lit< tt) k ∷ byte 7 (lit< tt) k ∷ []))
+    ∙ from_le_bytes-to_le_bytes_8 word fits
+  where
+    byte : (j : ℕ) → j < 8 → slice_index bytes (8 * i + j) ≡ slice_index (to_le_bytes w64 word) j
+    byte j below = sym (is j below) ∙ sym (byte_in word j below)
+
+    first : slice_index bytes (8 * i) ≡ slice_index (to_le_bytes w64 word) 0
+    first = ap (slice_index bytes) (omega arith) ∙ byte 0 (lit< tt)
+
+-- so many words
+pub length-words : (bytes : List ℕ) (count : ℕ) → length (words_in bytes count) ≡ count
+length-words bytes count = length-map-range_with_len (word_at bytes) 0 count
+
+pub index-words : (bytes : List ℕ) (count i : ℕ) → i < count → slice_index (words_in bytes count) i ≡ word_at bytes i
+index-words bytes count i below = get_or-map-range_with_len (word_at bytes) 0 count i i 0 below (omega arith)
+
+-- the words in bytes spell them
+pub words-spell : (bytes : List ℕ) (count i : ℕ) → ((n : ℕ) → slice_index bytes n < 256) → i < 8 * count → slice_index (words_in bytes count) (i / 8) / 256 ^ (i % 8) % 256 ≡ slice_index bytes i
+words-spell bytes count i small below =
+    ap (λ w. w / 256 ^ (i % 8) % 256) (index-words bytes count (i / 8) (omega (arith, below)))
+    ∙ word_byte bytes (8 * (i / 8)) small (word_at bytes (i / 8)) (i % 8) (word_at-bytes bytes (i / 8)) (omega arith)
+    ∙ ap (slice_index bytes) (omega arith)

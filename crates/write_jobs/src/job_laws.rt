@@ -19,4 +19,4 @@ pub fn jobs_come_and_go_on_the_device()
     ensures words { SpellsWhole }
 {}
 
-pub use crate::jobs::{Filled, FilledJob, Job, staged_words};
+pub use crate::jobs::{Filled, FilledJob, Job, StagedBytes};

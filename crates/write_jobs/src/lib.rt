@@ -17,5 +17,5 @@ mod jobs;
 mod loans;
 
 pub use job_laws::jobs_come_and_go_on_the_device;
-pub use jobs::{Filled, FilledJob, Job, staged_words};
+pub use jobs::{Filled, FilledJob, Job, StagedBytes};
 pub use loans::{KSplit, lend_blocks, loans_are_put_back, settle_blocks};

@@ -34,4 +34,4 @@ pub use crate::asks::{
     Asked, FileTable, OpenFiles, Opened, Target, ask, numbers_are_those_of_the_state, room_by,
     truncate_row,
 };
-pub use live_model::{Collection, Commit, Job, KSplit, read_bytes, staged_words};
+pub use live_model::{Collection, Commit, Job, KSplit, StagedBytes, read_bytes};

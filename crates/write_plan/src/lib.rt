@@ -29,8 +29,8 @@ pub use asks::{
     Asked, FileTable, OpenFiles, Opened, Target, ask, move_by, numbers_are_those_of_the_state,
 };
 pub use drafts::{
-    Collection, Commit, Job, KSplit, draft_of, entries_are_the_next_ones,
-    kept_numbers_are_those_of_the_state, read_bytes, staged_words,
+    Collection, Commit, Job, KSplit, StagedBytes, draft_of, entries_are_the_next_ones,
+    kept_numbers_are_those_of_the_state, read_bytes,
 };
 pub use first_writes::{the_first_holes_find_their_blocks, the_first_write_finds_its_blocks};
 pub use parts::staged_blocks_are_those_of_the_part;

@@ -1,8 +1,31 @@
-//! What the blocks of a write are to hold.
-ghost use Rattle.std.specs.Prelude.{◌≡◌, ◌≤◌, ◌<◌, ◌+◌, ◌*◌, ◌/◌, ◌%◌, ◌^◌, ◌↔◌, ℕ, length, slice_index, IfOk, IsTrue};
-ghost use Rattle.write_jobs.specs.Contents.{framed, framed_bytes, IsWordAt, SpellBytes};
+//! What the blocks of a write are to hold: the bytes, and the words that these spell.
+ghost use Rattle.std.specs.Prelude.{◌≡◌, ◌≤◌, ◌<◌, ◌+◌, ◌*◌, ◌/◌, ◌%◌, ◌^◌, ℕ, length, slice_index};
+ghost use Rattle.pm_lines.specs.pm_model.Words.{word_at};
+ghost use Rattle.write_jobs.specs.Contents.{framed, framed_bytes, SpellBytes};
 
-use std::alloc::{AllocError, Global};
+use std::marker::Model;
+
+/// What blocks of a file are to hold: its bytes in these blocks before byte `at` of them, new bytes from there on, and its
+/// bytes behind those; what is in none is zero. Contracts see the words that these bytes spell, 512 a block.
+#[derive(Debug, Drop)]
+pub struct StagedBytes {
+    front: Vec<u8>,
+    at: usize,
+    new: Vec<u8>,
+    back: Vec<u8>,
+    count: u32,
+}
+
+impl Model for StagedBytes {
+    ghost use Rattle.std.specs.Prelude.{◌≤◌, ◌*◌, ℕ, List};
+    ghost use Rattle.write_jobs.specs.Contents.{framed, words_in};
+
+    ghost Value = { List ℕ };
+
+    ghost view = { λ a. words_in (framed a.front.items a.at a.new.items a.back.items) (512 * a.count) };
+
+    ghost invariant = { λ a. a.count ≤ 33 };
+}
 
 // Byte `i` of new bytes that begin at `at`, between others.
 fn byte_at(front: &[u8], at: usize, new: &[u8], back: &[u8], i: usize) -> u8
@@ -37,15 +60,9 @@ fn eight_of(new: &[u8], first: usize) -> [u8; 8]
     requires { first + 8 ≤ length new.now }
     ensures { (j : ℕ) → j < 8 → slice_index result j ≡ slice_index new.now (first + j) }
 {
+    let part = &new[first..first + 8];
     [
-        new[first],
-        new[first + 1],
-        new[first + 2],
-        new[first + 3],
-        new[first + 4],
-        new[first + 5],
-        new[first + 6],
-        new[first + 7],
+        part[0], part[1], part[2], part[3], part[4], part[5], part[6], part[7],
     ]
 }
 
@@ -93,86 +110,49 @@ fn word_at(front: &[u8], at: usize, new: &[u8], back: &[u8], i: usize) -> u64
     word_of(eight_at(front, at, new, back, first))
 }
 
-// Whether 64 bytes stand from `from` on.
-fn has_line(bytes: &[u8], from: usize) -> bool
-    ensures { IsTrue result ↔ (from + 64 ≤ length bytes.now) }
+// The words of block `block` of them.
+fn block_at(front: &[u8], at: usize, new: &[u8], back: &[u8], block: usize) -> [u64; 512]
+    requires { block < 2 ^ 11 }
+    ensures { (j : ℕ) → j < 512
+        → slice_index result j ≡ word_at (framed front.now at new.now back.now) (512 * block + j) }
 {
-    64 <= bytes.len() && from <= bytes.len() - 64
-}
-
-// The words of 64 bytes, from `from` on.
-fn line_of(bytes: &[u8], from: usize) -> [u64; 8]
-    requires { from + 64 ≤ length bytes.now }
-    ensures { (k : ℕ) → k < 8 → IsWordAt (slice_index result k) bytes.now (from + 8 * k) }
-{
-    let mut words = [0; 8];
-    for k in 0..8 {
-        words[k] = word_of(eight_of(bytes, from + 8 * k));
+    let mut words = [0; 512];
+    for j in 0..512 {
+        words[j] = word_at(front, at, new, back, 512 * block + j);
     }
     words
 }
 
-// Line `line` of them, word by word.
-fn mixed_line(front: &[u8], at: usize, new: &[u8], back: &[u8], line: usize) -> [u64; 8]
-    requires { line < 2 ^ 17 }
-    ensures { (k : ℕ) → k < 8
-        → IsWordAt (slice_index result k) (framed front.now at new.now back.now) (64 * line + 8 * k) }
-{
-    let mut words = [0; 8];
-    for k in 0..8 {
-        words[k] = word_at(front, at, new, back, 8 * line + k);
-    }
-    words
-}
+// Bytes are below 256.
+fn bytes_are_small(bytes: &[u8])
+    ensures { (n : ℕ) → slice_index bytes.now n < 256 }
+{}
 
-// Line `line` of them: where it lies in one of the three, or behind all, it is made of that alone.
-fn line_at(front: &[u8], at: usize, new: &[u8], back: &[u8], line: usize) -> [u64; 8]
-    requires { line < 2 ^ 17 }
-    ensures { (k : ℕ) → k < 8
-        → IsWordAt (slice_index result k) (framed front.now at new.now back.now) (64 * line + 8 * k) }
-{
-    let first = 64 * line;
-    if first < at {
-        if 64 <= at - first && has_line(front, first) {
-            return line_of(front, first);
-        }
-        return mixed_line(front, at, new, back, line);
-    }
-    let inside = first - at;
-    if has_line(new, inside) {
-        return line_of(new, inside);
-    }
-    if new.len() <= inside {
-        let behind = inside - new.len();
-        if has_line(back, behind) {
-            return line_of(back, behind);
-        }
-        if back.len() <= behind {
-            return [0; 8];
+impl StagedBytes {
+    /// What `count` blocks of a file, 33 at most, are to hold: its bytes in these blocks before byte `at` of them, the new
+    /// bytes from there on, and its bytes behind those. It takes no memory.
+    pub fn of(front: Vec<u8>, at: usize, new: Vec<u8>, back: Vec<u8>, count: u32) -> StagedBytes
+        requires { count ≤ 33 }
+        ensures { SpellBytes result (framed_bytes front.items at new.items back.items count) }
+    {
+        bytes_are_small(&front);
+        bytes_are_small(&new);
+        bytes_are_small(&back);
+        StagedBytes {
+            front,
+            at,
+            new,
+            back,
+            count,
         }
     }
-    mixed_line(front, at, new, back, line)
-}
 
-/// The words that `count` blocks of a file are to hold: its bytes in these blocks before byte `at` of them,
-/// the new bytes from there on, and its bytes behind those; what is in none is zero. It takes memory for the
-/// words alone.
-pub fn staged_words(
-    alloc: Global,
-    front: &[u8],
-    at: usize,
-    new: &[u8],
-    back: &[u8],
-    count: u32,
-) -> Result<Vec<u64>, AllocError>
-    requires { count ≤ 33 }
-    ensures { IfOk result (λ words.
-        SpellBytes words.items (framed_bytes front.now at new.now back.now count)) }
-{
-    let lines = 64 * count as usize;
-    let mut words = Vec::with_capacity(alloc, 8 * lines)?;
-    for line in 0..lines {
-        words.extend_from_slice(&line_at(front, at, new, back, line))?;
+    /// The 512 words of block `block`.
+    pub(crate) fn block(&self, block: usize) -> [u64; 512]
+        requires { 512 * block + 512 ≤ length self.now }
+        ensures { (j : ℕ) → j < 512
+            → slice_index result j ≡ slice_index self.now (512 * block + j) }
+    {
+        block_at(&self.front, self.at, &self.new, &self.back, block)
     }
-    Ok(words)
 }

@@ -4,6 +4,7 @@ ghost use Rattle.pm_lines.specs.pm_model.Powers.{is_on, Steps};
 ghost use Rattle.write_jobs.specs.Filling.{IsFilledBy};
 ghost use Rattle.write_jobs.specs.Jobs.{blocks_of, AreSingle, HoldWords};
 
+use crate::jobs::contents::StagedBytes;
 use crate::jobs::jobs::{FilledJob, Job};
 use pm_lines::{Loan, Power};
 
@@ -14,8 +15,8 @@ pub enum Filled {
     PowerLost(Job),
 }
 
-// Stores the words of each block, and makes them durable.
-fn fill_blocks(loans: &mut Vec<Loan>, power: &mut Power, words: &[u64])
+// Makes the words of each block, stores them and makes them durable, block after block.
+fn fill_blocks(loans: &mut Vec<Loan>, power: &mut Power, words: &StagedBytes)
     requires few { length loans.old.items ≤ 33 }
     requires words { length words.now ≡ 512 * length loans.old.items }
     requires single { AreSingle loans.old.items }
@@ -25,13 +26,13 @@ fn fill_blocks(loans: &mut Vec<Loan>, power: &mut Power, words: &[u64])
     ensures done { is_on power.new ≡ true → HoldWords loans.new.items words.now }
 {
     for k in 0..loans.len() {
-        loans[k].write_block(power, &words[512 * k..512 * k + 512]);
+        loans[k].write_block(power, &words.block(k));
     }
 }
 
 impl Job {
-    /// Stores the words of the job into its blocks, and makes them durable. It takes no memory. A job whose
-    /// power went is filled no more.
+    /// Makes the words of the job, stores them into its blocks, and makes them durable. It takes no memory. A job
+    /// whose power went is filled no more.
     ///
     /// # Steps
     ///

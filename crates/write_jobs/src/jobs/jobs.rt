@@ -2,18 +2,19 @@
 ghost use Rattle.std.specs.Prelude.{◌≡◌, ◌≤◌, false};
 ghost use Rattle.write_jobs.specs.Jobs.{AreOfEntry, AreSingle, HoldWords};
 
+use crate::jobs::contents::StagedBytes;
 use layout_model::Draft;
 use pm_lines::Loan;
 use posix_types::Who;
 use std::marker::Model;
 
-/// A logged write that has begun: the blocks of its entry, lent, and the words that they are to hold.
+/// A logged write that has begun: the blocks of its entry, lent, and what they are to hold.
 #[derive(Debug, Drop)]
 pub struct Job {
     pub(crate) who: Who,
     pub(crate) draft: Draft,
     pub(crate) loans: Vec<Loan>,
-    pub(crate) words: Vec<u64>,
+    pub(crate) words: StagedBytes,
     pub(crate) lost: bool,
 }
 
@@ -27,11 +28,11 @@ impl Model for Job {
       who = job.who;
       draft = job.draft;
       loans = job.loans.items;
-      words = job.words.items;
+      words = job.words;
       lost = job.lost;
     } };
 
-    ghost invariant = { λ job. AreOfEntry job.draft job.loans.items job.words.items
+    ghost invariant = { λ job. AreOfEntry job.draft job.loans.items job.words
         × (job.lost ≡ false → AreSingle job.loans.items) };
 }
 
@@ -41,7 +42,7 @@ pub struct FilledJob {
     pub(crate) who: Who,
     pub(crate) draft: Draft,
     pub(crate) loans: Vec<Loan>,
-    pub(crate) words: Vec<u64>,
+    pub(crate) words: StagedBytes,
 }
 
 impl Model for FilledJob {
@@ -53,24 +54,24 @@ impl Model for FilledJob {
       who = job.who;
       draft = job.draft;
       loans = job.loans.items;
-      words = job.words.items;
+      words = job.words;
     } };
 
-    ghost invariant = { λ job. AreOfEntry job.draft job.loans.items job.words.items
-        × HoldWords job.loans.items job.words.items };
+    ghost invariant = { λ job. AreOfEntry job.draft job.loans.items job.words
+        × HoldWords job.loans.items job.words };
 }
 
 impl Job {
     /// The job of a caller: of the entry `draft`, whose blocks are lent, in their order, with the 512 words
     /// that each is to hold. Each word of the loans has one candidate. An entry has 33 blocks at most.
-    pub fn of(who: Who, draft: Draft, loans: Vec<Loan>, words: Vec<u64>) -> Job
-        requires entry { AreOfEntry draft loans.items words.items }
+    pub fn of(who: Who, draft: Draft, loans: Vec<Loan>, words: StagedBytes) -> Job
+        requires entry { AreOfEntry draft loans.items words }
         requires single { AreSingle loans.items }
         ensures { result ≡ record {
           who = who;
           draft = draft;
           loans = loans.items;
-          words = words.items;
+          words = words;
           lost = false;
         } }
     {

@@ -8,12 +8,12 @@ ghost use Rattle.live_model.specs.map_collection.Kept.{Agrees, KeepsOthers};
 ghost use Rattle.live_model.specs.write_jobs.Contents.{SpellBytes};
 ghost use Rattle.write_plan.specs.Words.{staged_in};
 
-use crate::drafts::{Collection, FileTable, KSplit, Target, read_bytes, staged_words};
+use crate::drafts::{Collection, FileTable, KSplit, StagedBytes, Target, read_bytes};
 use std::alloc::{AllocError, Global};
 
-/// The words that `count` blocks are to hold, from that of the target's first byte on: what the file has
-/// there, with the new bytes over it, and zeros behind both. The new bytes lie in these blocks; of the file
-/// only what lies beside them there is read.
+/// What `count` blocks are to hold, from that of the target's first byte on: what the file has there, with the new bytes
+/// over it, and zeros behind both. The new bytes lie in these blocks, and are copied; of the file only what lies beside
+/// them there is read. No word is made.
 pub fn words_of_write(
     alloc: Global,
     k: &KSplit,
@@ -22,7 +22,7 @@ pub fn words_of_write(
     target: Target,
     count: u32,
     new: &[u8],
-) -> Result<Vec<u64>, AllocError>
+) -> Result<StagedBytes, AllocError>
     requires there { target.ino < length k.now.volume.inodes }
     requires below { target.ino < length files.now.sizes }
     requires size { target.size ≡ size_in files.now target.ino }
@@ -32,7 +32,7 @@ pub fn words_of_write(
     requires readable { FileCanBeRead k.now.volume k.now.cells (runs_in files.now target.ino)
         target.ino }
     requires agrees { Agrees collection.old target.ino (extents k.now.volume target.ino) }
-    ensures words { IfOk result (λ words. SpellBytes words.items
+    ensures words { IfOk result (λ words. SpellBytes words
         (staged_in k.now files.now target.ino target.start count new.now)) }
     ensures agrees { Agrees collection.new target.ino (extents k.now.volume target.ino) }
     ensures others { KeepsOthers target.ino collection.old collection.new }
@@ -53,5 +53,6 @@ pub fn words_of_write(
         collection,
     )?;
     let back = read_bytes(alloc, k, target.ino, size, end, rest, overlay, collection)?;
-    staged_words(alloc, &front, at as usize, new, &back, count)
+    let new = Vec::from_slice(alloc, new)?;
+    Ok(StagedBytes::of(front, at as usize, new, back, count))
 }

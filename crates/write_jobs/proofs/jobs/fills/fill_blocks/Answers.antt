@@ -1,6 +1,5 @@
-use Rattle.std.proofs.Common.{arith, ◌≡◌, ◌<◌, ◌+◌, ◌*◌, ◌-◌, ℕ, true, length, sym, ap, subst, ◌∙◌}
-use Rattle.std.specs.Prelude.{drop}
-use Rattle.std.proofs.lemmas.List.{get_or-drop, get_or-take, length-set}
+use Rattle.std.proofs.Common.{arith, ◌≡◌, ◌<◌, ◌+◌, ◌*◌, ℕ, true, length, sym, ap, subst, ◌∙◌}
+use Rattle.std.proofs.lemmas.List.{length-set}
 use Rattle.pm_lines.specs.pm_model.declared.Cell.TheVariants.{Single}
 use Rattle.pm_lines.specs.pm_model.Cells.{cell, is_single}
 use Rattle.pm_lines.specs.pm_model.Parts.{Part}
@@ -32,6 +31,5 @@ loop-k-preserved c =
           let more : 577 * k + 577 ≡ 577 * (k + 1) = omega arith in
           subst (λ n. Steps n c.args.power.now c.write_block.new.power) more (Steps-then (577 * k) 577 c.args.power.now c.loop-k.power c.write_block.new.power c.loop-k.invariant.steps c.write_block.ensures.steps);
       later = λ n past. set_other loans k within loan n (λ same. omega (arith, same, past)) ∙ c.loop-k.invariant.later n (omega (arith, past));
-      done = λ on. set_holds loans k within loan c.args.words.now (c.loop-k.invariant.done (c.write_block.ensures.steps.on_before on)) (λ j word. c.write_block.ensures.done on j word
-          ∙ ap (λ (v : ℕ). Single v) (get_or-take (512 * k + 512 - 512 * k) (drop (512 * k) c.args.words.now) j 0 (omega (arith, word)) ∙ get_or-drop (512 * k) c.args.words.now j 0));
+      done = λ on. set_holds loans k within loan c.args.words.now (c.loop-k.invariant.done (c.write_block.ensures.steps.on_before on)) (λ j word. c.write_block.ensures.done on j word ∙ ap (λ (v : ℕ). Single v) (c.block.ensures j word));
     }

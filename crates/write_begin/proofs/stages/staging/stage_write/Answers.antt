@@ -24,8 +24,8 @@ lend_blocks-requires-clause-may c =
 pub of-requires-clause-entry : goal.of-requires-clause-entry
 of-requires-clause-entry c =
     let lent = subst (λ (d : Draft). AreLentBy c.args.k.now.volume d c.args.k.now.cells c.lend_blocks.new.k.cells c.in_ok-loans.loans.items) c.draft_of-draft.ensures.draft c.in_ok-loans.ensures.lent in
-    subst (λ (d : Draft). AreOfEntry d c.in_ok-loans.loans.items c.in_ok-words.words.items) (sym c.draft_of-draft.ensures.draft)
-    (of_entry c.args.k.now c.args.files.now c.args.who c.args.target c.args.bytes.now c.args.run c.requires c.in_ok-loans.loans.items c.in_ok-words.words.items lent.loans_are c.in_ok-words.ensures.words)
+    subst (λ (d : Draft). AreOfEntry d c.in_ok-loans.loans.items c.in_ok-words.words) (sym c.draft_of-draft.ensures.draft)
+    (of_entry c.args.k.now c.args.files.now c.args.who c.args.target c.args.bytes.now c.args.run c.requires c.in_ok-loans.loans.items c.in_ok-words.words lent.loans_are c.in_ok-words.ensures.words)
 
 pub of-requires-clause-single : goal.of-requires-clause-single
 of-requires-clause-single c =
@@ -39,6 +39,6 @@ returns-clause-staged c = λ ready.
     (λ (words : List ℕ). IsStaged c.args.k.now c.lend_blocks.new.k c.args.files.now c.args.who c.args.target c.args.bytes.now c.args.run words c.note_blocks.new.blocks.items ready)
     (sym (ap (λ (job : JobView). job.words) c.of.ensures))
     (is_staged c.entries_are_the_next_ones.ensures c.words_spell_the_file.ensures.staged c.a_job_begins_in_flight.ensures c.args.k.now c.lend_blocks.new.k c.args.files.now c.args.who c.args.target c.args.bytes.now c.args.run
-    c.in_ok-words.words.items c.note_blocks.new.blocks.items c.in_ok-loans.loans.items ready (subst FitsDraft c.draft_of-draft.ensures.draft c.draft_of-draft.ensures.fields)
+    c.in_ok-words.words c.note_blocks.new.blocks.items c.in_ok-loans.loans.items ready (subst FitsDraft c.draft_of-draft.ensures.draft c.draft_of-draft.ensures.fields)
     (c.note_blocks.ensures ∙ ap (λ (loans : List Part). blocks_of loans) c.deref.ensures.value) lent c.in_ok-loans.ensures.same
     (c.is_lost-lost.ensures.order (ap (λ (y : View). y.lost) c.in_ok-loans.ensures.same ∙ ready.stands.on)) c.in_ok-words.ensures.words)

@@ -3,23 +3,28 @@ ghost use Rattle.std.specs.Prelude.{◌≡◌, [], IfOk, OnErr};
 ghost use Rattle.extent_map.specs.extent_model.Extents.{disk_at};
 ghost use Rattle.map_collection.specs.Kept.{Agrees, KeepsNothing, KeepsOthers};
 
-use extent_map::ExtentMap;
+use crate::regions::{REGION, REGIONS, disk_of, disks_from, region_of};
+use extent_map::{ExtentMap, FILE_BLOCKS};
 use std::alloc::{AllocError, Global};
+use std::collections::BTreeMap;
 use std::marker::Model;
 
 /// Translations of file blocks, by inode and block.
 #[derive(Drop)]
 pub struct Collection {
     alloc: Global,
+    // What maps say of the regions that were asked for, by their numbers.
+    regions: BTreeMap<u64, Vec<Option<u32>>>,
 }
 
 impl Model for Collection {
-    ghost use Rattle.std.specs.Prelude.{List, []};
+    ghost use Rattle.std.specs.Prelude.{List};
     ghost use Rattle.map_collection.specs.Kept.{Answer};
+    ghost use Rattle.map_collection.specs.Regions.{answers_in};
 
     ghost Value = { List Answer };
 
-    ghost view = { λ c. [] };
+    ghost view = { λ c. answers_in c.regions.entries };
 }
 
 impl Collection {
@@ -27,7 +32,10 @@ impl Collection {
     pub fn new(alloc: Global) -> Collection
         ensures { result ≡ [] }
     {
-        Collection { alloc }
+        Collection {
+            alloc,
+            regions: BTreeMap::new(alloc),
+        }
     }
 
     /// The disk block of a file block, as the inode's map says. What is kept of the inode agrees with
@@ -48,7 +56,17 @@ impl Collection {
         ensures others { KeepsOthers ino self.old self.new }
         ensures memory { OnErr result (self.new ≡ self.old) }
     {
-        Ok(map.lookup(block))
+        if block >= FILE_BLOCKS {
+            return Ok(map.lookup(block));
+        }
+        let region = region_of(ino, block);
+        if let Some(disks) = self.regions.get(&region) {
+            return Ok(disk_of(disks, block));
+        }
+        let disks = disks_from(self.alloc, map, block / REGION * REGION)?;
+        let disk = disk_of(&disks, block);
+        self.regions.insert(region, disks)?;
+        Ok(disk)
     }
 
     /// Nothing is kept of an inode any longer, and the rest stays.
@@ -56,6 +74,9 @@ impl Collection {
         ensures gone { KeepsNothing self.new ino }
         ensures others { KeepsOthers ino self.old self.new }
     {
-        *self = Collection::new(self.alloc);
+        let first = region_of(ino, 0);
+        for i in 0..u64::from(REGIONS) {
+            let _disks = self.regions.remove(&(first + i));
+        }
     }
 }

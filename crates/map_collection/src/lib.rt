@@ -8,15 +8,19 @@
 //! other inodes stays; after `forget` nothing of the inode is kept, so any map agrees. Whoever
 //! changes a map that gave answers has to call `forget`.
 //!
-//! It asks the map each time, and keeps nothing yet. It stands on `extent_map`.
+//! It keeps regions of 512 file blocks: the first question about a region takes all its translations from
+//! the map's extents, later ones read the region. Regions stand in an ordered map, 8 for each inode, so a
+//! look-up costs the logarithm of their number. From file block 4,096 on a map has nothing, and nothing is
+//! kept. Where memory is short, `lookup` leaves what is kept as it was; `forget` takes none. No clause shows
+//! the regions.
 //!
-//! Each read and write makes a new one by now: a body that keeps regions of a map comes later, under this
-//! contract.
+//! It stands on `extent_map`.
 #![tactic(auto)]
 
 ghost use Rattle.map_collection.specs.Laws.{ForgottenAgrees};
 
 mod collection;
+mod regions;
 
 pub use collection::Collection;
 

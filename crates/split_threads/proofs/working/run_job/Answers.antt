@@ -19,6 +19,18 @@ returns-in-Ready-clause-goes g c i first seat far =
     c.append_job.ensures.goes i first seat
     (fill_ready c.args.shared.now.turn c.args.shared.now.log i first seat c.args.own.now c.args.job far c.fill.new.power c.args.job.draft.count c.draft-draft.ensures.entry.few c.fill.ensures.steps c.each_answer_may_be_left.ensures.fills c.in-Ready.job c.in-Ready.ensures.filled)
 
+pub tell_loss-requires : goal.tell_loss-requires
+tell_loss-requires g c =
+    let far = c.requires.begun.3 in
+    let off = c.in-PowerLost.ensures.filled in
+    let bound = fill_bounded c.args.shared.now.turn c.args.shared.now.log c.requires.begun.0 c.requires.begun.1 c.requires.begun.2 c.args.own.now c.args.job far c.fill.new.power c.args.job.draft.count c.draft-draft.ensures.entry.few c.fill.ensures.steps c.a_worker_goes_on.ensures.bound off.off in (
+      c.requires.begun.0,
+      far.view,
+      far.worker.pass,
+      begun_some far.view far.has.then far.has.begun,
+      (bound.0, bound.1, bound.2),
+    )
+
 pub returns-then-tell_loss-clause-goes : goal.returns-then-tell_loss-clause-goes
 returns-then-tell_loss-clause-goes g c i first seat far =
     let off = c.in-PowerLost.ensures.filled in

@@ -1,5 +1,5 @@
 -- Holes of a file that get blocks: what its new map asks for.
-use Rattle.std.proofs.Common.{◌≡◌, ◌<◌, ◌≤◌, ◌+◌, ◌^◌, ℕ, true, List, [], ◌++◌, length, refl, sym, ◌∙◌, ap, inl, inr, arith, subst}
+use Rattle.std.proofs.Common.{◌≡◌, ◌<◌, ◌≤◌, ◌+◌, ◌^◌, ℕ, true, List, [], ◌++◌, length, refl, sym, ◌∙◌, inl, inr, arith, subst}
 use Rattle.std.specs.Prelude.{◌&&◌, nat_le}
 use Rattle.std.proofs.lemmas.Bool.{cases_lt}
 use Rattle.std.proofs.lemmas.Bool.Decides.{nat_tests}
@@ -14,8 +14,8 @@ use Rattle.k_plans.specs.image_model.Volume.{chain, extents, inode}
 use Rattle.k_relink.specs.extent_model.declared.extent_words.Extent.{Extent}
 use Rattle.k_plans.specs.k_journal.declared.batches.Record.{Record}
 use Rattle.k_plans.specs.LandingsPlans.{NewChain}
-use Rattle.k_plans.specs.Free.{free_blocks, is_free_block}
-use Rattle.k_plans.specs.Switching.{IsSetAside, WaitOnce}
+use Rattle.k_plans.specs.Free.{AreAsideOnce, free_blocks, is_free_block}
+use Rattle.k_plans.specs.Switching.{IsSetAside}
 use Rattle.k_plans.specs.View.{TablesView}
 use Rattle.k_plans.specs.Whole.{IsWhole}
 use Rattle.k_plans.specs.k_split_model.MapChangesChanges.{Fills, IsFilled}
@@ -28,9 +28,10 @@ use Rattle.k_plans.specs.volume_laws.OwnerLaws.{uses-le-owners}
 use Rattle.k_plans.specs.volume_laws.UseLaws.{length-uses_by}
 use Rattle.k_plans.specs.volume_laws.Uses.{in_chain, in_map}
 use Rattle.k_map_plans.specs.Going.{HasGoneOver, MayGoOver}
-use Rattle.k_map_plans.specs.Plans.{IsLiveFile}
+use Rattle.k_map_plans.specs.Plans.{IsLiveFile, WantsToFill}
+use Rattle.k_map_plans.specs.Plans.WantsToFill.{Chain}
 use Rattle.k_map_plans.proofs.Goings.{aside-once, aside-unused, aside-volume, left-free}
-use Rattle.k_map_plans.proofs.Sizes.{file-short, none-waits}
+use Rattle.k_map_plans.proofs.Sizes.{file-short, none-aside}
 
 -- the line of a file, without its map
 file-bare : (x : Inode) → x.kind ≡ File → is_inode x ≡ true → is_inode (with_map [] [] x) ≡ true
@@ -70,20 +71,30 @@ module _ (t u : TablesView) (n ino first count : ℕ) (fresh : List ℕ) (es : L
   chain-room : chains_for (length es) + 3 ≤ reserve t.volume.geometry
   chain-room = map-bound t.volume es fills.canonical filled-once filled-data
 
-  pub fill-may : t.waiting ≡ [] → n + reserve t.volume.geometry ≤ free_blocks t + 2 → free_blocks u + n ≡ free_blocks t
-      → MayGoOver u ino (inode u.volume ino) es []
-  fill-may idle room left =
+  -- what it wants, where so many blocks are not free
+  pub fill-few : free_blocks u + n ≡ free_blocks t → free_blocks u < chains_for (length es)
+      → ((m : ℕ) × WantsToFill ino first count t m × (free_blocks t < m)) × (free_blocks t + 2 < n + reserve t.volume.geometry)
+  fill-few left none = (
+    (
+      length fresh + chains_for (length es),
+      Chain fresh es (subst (λ m. AreLowest (is_free_block t) m fresh) (sym aside.lowest.count) aside.lowest) fills refl,
+      omega (arith, left, none, aside.lowest.count),
+    ),
+    omega (arith, left, none, chain-room),
+  )
+
+  pub fill-may : t.aside ≡ [] → MayGoOver u ino (inode u.volume ino) es []
+  fill-may idle =
       subst (λ (y : TablesView). MayGoOver y ino (inode y.volume ino) es []) (sym aside.after) (record {
         below = file.below;
         kind = refl;
         holder = inl file.file;
         fields = file-bare (inode t.volume ino) file.file (whole.inodes ino);
         short = file-short (inode t.volume ino) es file.file fills.canonical;
-        once = subst WaitOnce aside.after (aside-once t u n fresh aside (λ b. omega (arith, none-waits t.waiting idle b)));
+        once = subst AreAsideOnce aside.after (aside-once t u n fresh aside (λ b. omega (arith, none-aside t.aside idle b)));
         same = λ b.
             let none : in_map [] b ≡ 0 = refl in
-            omega (arith, none, blocks b, in_chain-append t.waiting fresh b, none-waits t.waiting idle b);
-        room = omega (arith, chain-room, room, left, ap free_blocks aside.after);
+            omega (arith, none, blocks b, in_chain-append t.aside fresh b, none-aside t.aside idle b);
       })
 
 pub filled-is : (t u : TablesView) (n ino first count : ℕ) (fresh : List ℕ) (es : List Extent) → IsSetAside n fresh t u

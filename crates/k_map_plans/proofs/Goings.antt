@@ -2,7 +2,7 @@
 use Rattle.std.proofs.Common.{◌≡◌, ◌⊎◌, ◌<◌, ◌≤◌, ◌+◌, ℕ, Bool, true, false, not, get_or, List, [], ◌∷◌, ◌++◌, length, refl, sym, ◌∙◌, ap, inl, inr, arith, subst}
 use Rattle.std.specs.Prelude.{All, ◌&&◌, ◌||◌, ◌==◌}
 use Rattle.std.specs.List.{list_any}
-use Rattle.std.proofs.lemmas.Bool.{both_ways, cases_Bool, cases_lt, eq-eqb, ne_eqb}
+use Rattle.std.proofs.lemmas.Bool.{and_right, both_ways, cases_Bool, cases_lt, eq-eqb, ne_eqb}
 use Rattle.std.proofs.lemmas.Bool.Decides.{nat_tests}
 use Rattle.std.proofs.lemmas.List.{length-set}
 use Rattle.block_counts.specs.Counts.{chains_for}
@@ -13,24 +13,29 @@ use Rattle.layout_model.specs.declared.lines.Kind.TheVariants.{Free, Directory, 
 use Rattle.layout_model.specs.Lines.{has_map_or_none, is_inode, is_inode_of_kind}
 use Rattle.k_plans.specs.layout_model.Places.{is_data_block}
 use Rattle.k_plans.specs.image_model.Placed.{AreDistinct}
-use Rattle.k_plans.specs.image_model.Volume.{Volume, chain}
+use Rattle.k_plans.specs.image_model.Room.{has_none}
+use Rattle.k_plans.specs.image_model.Uses.{owners}
+use Rattle.k_plans.specs.image_model.Volume.{Volume, chain, extents}
 use Rattle.k_relink.specs.extent_model.Counts.{length-le}
 use Rattle.k_relink.specs.extent_model.declared.extent_words.Extent.{Extent}
 use Rattle.k_relink.specs.extent_model.Extents.{IsCanonical}
 use Rattle.k_plans.specs.k_journal.declared.batches.Record.{Record}
 use Rattle.k_plans.specs.LandingsPlans.{NewChain, Turns, new_at}
 use Rattle.k_plans.specs.WrittenLaws.{blocks_of-one}
-use Rattle.k_plans.specs.Free.{is_free_block}
-use Rattle.k_plans.specs.Switching.{IsMapPlan, IsSetAside, WaitOnce}
+use Rattle.k_plans.specs.Free.{AreAsideOnce, AreKeptBack, SetsFreedAside, is_free_block}
+use Rattle.k_plans.specs.Switching.{IsMapPlan, IsSetAside}
 use Rattle.k_plans.specs.View.{TablesView}
 use Rattle.k_plans.specs.Whole.{IsWhole}
 use Rattle.k_plans.specs.k_split_model.Taken.{AreLowest, switched, with_map}
-use Rattle.k_plans.specs.volume_laws.Changes.{chain-set_same}
+use Rattle.k_plans.specs.volume_laws.Changes.{chain-set_same, extents-set_same}
+use Rattle.k_plans.specs.volume_laws.OwnerLaws.{uses-le-owners}
+use Rattle.k_plans.specs.volume_laws.PoolLaws.{has_none-some}
+use Rattle.k_plans.specs.volume_laws.UseLaws.{length-uses_by}
 use Rattle.k_plans.specs.volume_change_laws.Hits.{in_chain-append}
-use Rattle.k_plans.specs.volume_change_laws.Switches.{MaySwitch, counted-among, unused-data}
+use Rattle.k_plans.specs.volume_change_laws.Switches.{MaySwitch, among-counted, counted-among, unused-data}
 use Rattle.k_plans.specs.volume_change_laws.TakenLaws.{All-at, rising-distinct, rising-once}
 use Rattle.k_plans.specs.volume_laws.Uses.{in_chain, in_map, is_unused}
-use Rattle.k_map_plans.specs.Going.{MayGoOver}
+use Rattle.k_map_plans.specs.Going.{HasGoneOver, HasSetAside, MayGoOver}
 
 -- ---- blocks that are set aside
 
@@ -41,59 +46,153 @@ among-append (x ∷ xs) ys b = elim (cases_Bool (x == b)) [
   | inr away ↦ rw away (among-append xs ys b)
 ]
 
-pub not_or : (u x y : Bool) → (u && not x && not y) ≡ (u && not (x || y))
-not_or true true y = refl
-not_or true false y = refl
-not_or false x y = refl
+not_or : (u a w x : Bool) → (u && not ((a || x) || w)) ≡ ((u && not (a || w)) && not x)
+not_or true true w x = refl
+not_or true false true true = refl
+not_or true false true false = refl
+not_or true false false true = refl
+not_or true false false false = refl
+not_or false a w x = refl
 
 pub free-unused : (t : TablesView) (b : ℕ) → is_free_block t b ≡ true → is_unused t.volume b ≡ true
-free-unused t b free = first (is_unused t.volume b) (not (is_among t.waiting b)) free
+free-unused t b free = first (is_unused t.volume b) (not (is_among t.aside b || is_among t.waiting b)) free
   where
     first : (y z : Bool) → (y && z) ≡ true → y ≡ true
     first true z both = refl
     first false z both = both
 
-free-home : (t : TablesView) (b : ℕ) → is_free_block t b ≡ true → is_among t.waiting b ≡ false
-free-home t b free = second (is_unused t.volume b) (is_among t.waiting b) free
+free-home : (t : TablesView) (b : ℕ) → is_free_block t b ≡ true → is_among t.aside b ≡ false
+free-home t b free = second (is_unused t.volume b) (is_among t.aside b) (is_among t.waiting b) free
   where
-    second : (y z : Bool) → (y && not z) ≡ true → z ≡ false
-    second true true both = absurd (both_ways false refl both)
-    second true false both = refl
-    second false z both = absurd (both_ways false refl both)
+    second : (y z w : Bool) → (y && not (z || w)) ≡ true → z ≡ false
+    second true true w both = absurd (both_ways false refl both)
+    second true false w both = refl
+    second false z w both = absurd (both_ways false refl both)
 
 module _ (t u : TablesView) (n : ℕ) (taken : List ℕ) (aside : IsSetAside n taken t u) where
   pub aside-unused : (b : ℕ) → 1 ≤ in_chain taken b → is_unused t.volume b ≡ true
   aside-unused b has = free-unused t b (All-at (λ k. is_free_block t k ≡ true) taken b aside.lowest.were_free has)
 
-  both-once : WaitOnce t → (b : ℕ) → in_chain (t.waiting ++ taken) b ≤ 1
+  both-once : AreAsideOnce t → (b : ℕ) → in_chain (t.aside ++ taken) b ≤ 1
   both-once once b = elim (cases_lt 0 (in_chain taken b)) [
-    | inl has ↦ elim (cases_lt 0 (in_chain t.waiting b)) [
+    | inl has ↦ elim (cases_lt 0 (in_chain t.aside b)) [
       | inl waits ↦
-          absurd (both_ways (is_among t.waiting b)
+          absurd (both_ways (is_among t.aside b)
           (free-home t b (All-at (λ k. is_free_block t k ≡ true) taken b aside.lowest.were_free (omega arith)))
-          (counted-among t.waiting b (omega arith)))
-      | inr home ↦ omega (arith, in_chain-append t.waiting taken b, rising-once taken b aside.lowest.rising)
+          (counted-among t.aside b (omega arith)))
+      | inr home ↦ omega (arith, in_chain-append t.aside taken b, rising-once taken b aside.lowest.rising)
     ]
-    | inr none ↦ omega (arith, in_chain-append t.waiting taken b, once b)
+    | inr none ↦ omega (arith, in_chain-append t.aside taken b, once b)
   ]
 
-  pub aside-once : WaitOnce t → WaitOnce u
-  aside-once once b = subst (λ (x : TablesView). in_chain x.waiting b ≤ 1) (sym aside.after) (both-once once b)
+  pub aside-once : AreAsideOnce t → AreAsideOnce u
+  aside-once once b = subst (λ (x : TablesView). in_chain x.aside b ≤ 1) (sym aside.after) (both-once once b)
 
   -- what is left free
   pub left-free : (b : ℕ) → is_free_block u b ≡ (is_free_block t b && not (list_any (λ k. k == b) taken))
   left-free b =
       ap (λ (y : TablesView). is_free_block y b) aside.after
-      ∙ ap (λ a. is_unused t.volume b && not a) (among-append t.waiting taken b)
-      ∙ sym (not_or (is_unused t.volume b) (is_among t.waiting b) (is_among taken b))
+      ∙ ap (λ a. is_unused t.volume b && not (a || is_among t.waiting b)) (among-append t.aside taken b)
+      ∙ not_or (is_unused t.volume b) (is_among t.aside b) (is_among t.waiting b) (is_among taken b)
 
   pub aside-volume : u.volume ≡ t.volume
   aside-volume = ap (λ (x : TablesView). x.volume) aside.after
 
--- where nothing waited
-pub once-after : (t u : TablesView) (n : ℕ) (taken : List ℕ) → t.waiting ≡ [] → IsSetAside n taken t u → WaitOnce u
-once-after t u n taken idle aside =
-    aside-once t u n taken aside (λ b. let none : in_chain t.waiting b ≡ 0 = ap (λ ws. in_chain ws b) idle in omega (arith, none))
+  pub aside-waiting : u.waiting ≡ t.waiting
+  aside-waiting = ap (λ (x : TablesView). x.waiting) aside.after
+
+pub set-aside : (t u : TablesView) (n : ℕ) (taken : List ℕ) → IsSetAside n taken t u → HasSetAside t u
+set-aside t u n taken aside = record { volume = aside-volume t u n taken aside; waiting = aside-waiting t u n taken aside }
+
+-- ---- what came free is set aside
+
+freed-test : (a u n x w : Bool) → (n && not (a || w)) ≡ ((u && not (false || w)) && not x) → (a ≡ true → n ≡ true) → (a ≡ true → w ≡ false)
+    → (w ≡ true → u ≡ true) → (x ≡ true → n ≡ false) → a ≡ (not u && n)
+freed-test true false n x w free aside apart waits used = sym (aside refl)
+freed-test true true false x w free aside apart waits used = absurd (both_ways false refl (aside refl))
+freed-test true true true x true free aside apart waits used = absurd (both_ways true (apart refl) refl)
+freed-test true true true true false free aside apart waits used = absurd (both_ways true (used refl) refl)
+freed-test true true true false false free aside apart waits used = absurd (both_ways false refl free)
+freed-test false true n x w free aside apart waits used = refl
+freed-test false false n x true free aside apart waits used = absurd (both_ways false refl (waits refl))
+freed-test false false true x false free aside apart waits used = absurd (both_ways true free refl)
+freed-test false false false x false free aside apart waits used = refl
+
+-- Where just the taken blocks are no longer free, and the volume uses them, just the blocks that came free are set aside.
+pub freed-aside : (t w : TablesView) (taken : List ℕ) → t.aside ≡ [] → AreKeptBack t → AreKeptBack w → w.waiting ≡ t.waiting
+    → ((b : ℕ) → is_free_block w b ≡ (is_free_block t b && not (is_among taken b)))
+    → ((b : ℕ) → is_among taken b ≡ true → is_unused w.volume b ≡ false) → SetsFreedAside t w
+freed-aside t w taken idle old new same free used b =
+    freed-test (is_among w.aside b) (is_unused t.volume b) (is_unused w.volume b) (is_among taken b) (is_among w.waiting b)
+    (free b ∙ (λ i. (is_unused t.volume b && not (is_among (idle i) b || is_among (sym same i) b)) && not (is_among taken b)))
+    (new.aside b) (new.apart b) (λ waits. old.waiting b (ap (λ ks. is_among ks b) (sym same) ∙ waits)) (used b)
+
+-- where no block is taken
+pub kept-aside : (t w : TablesView) → t.aside ≡ [] → AreKeptBack t → AreKeptBack w → w.waiting ≡ t.waiting
+    → ((b : ℕ) → is_free_block w b ≡ is_free_block t b) → SetsFreedAside t w
+kept-aside t w idle old new same free =
+    freed-aside t w [] idle old new same (λ b. free b ∙ and_true (is_free_block t b)) (λ b never. absurd (both_ways false refl never))
+  where
+    and_true : (f : Bool) → f ≡ (f && true)
+    and_true true = refl
+    and_true false = refl
+
+-- a block that an inode has is used
+pub in-use : (v : Volume) (ino b : ℕ) → ino < length v.inodes → 1 ≤ in_chain (chain v ino) b + in_map (extents v ino) b
+    → is_unused v b ≡ false
+in-use v ino b below has =
+    and_right (is_data_block v.geometry b) (has_none (owners v b))
+    (has_none-some (owners v b)
+    (omega (arith, has, uses-le-owners v b ino below, length-uses_by ino (chain v ino) (extents v ino) b)))
+
+-- as many inodes as before
+pub switched-below : (v w : Volume) (ino : ℕ) (x : Inode) (blocks : List ℕ) (es : List Extent) → w ≡ switched ino x blocks es v
+    → length w.inodes ≡ length v.inodes
+switched-below v w ino x blocks es is =
+    ap (λ (y : Volume). length y.inodes) is ∙ length-set v.inodes ino (with_map blocks es x)
+
+-- One inode went over to a map, in a chain of blocks that were taken.
+pub gone-aside : (t w : TablesView) (ino : ℕ) (x : Inode) (es : List Extent) (b : List Record) (c : NewChain) → t.aside ≡ [] → AreKeptBack t
+    → ino < length t.volume.inodes → HasGoneOver ino x es t w b c → SetsFreedAside t w
+gone-aside t w ino x es b c idle back below gone =
+    freed-aside t w c.blocks idle back gone.back gone.waiting gone.free (λ k among.
+    in-use w.volume ino k (omega (arith, below, switched-below t.volume w.volume ino x c.blocks es gone.after))
+    (omega (arith, among-counted c.blocks k among, ap (λ ks. in_chain ks k) gone.chain_is)))
+
+and_both : (f x y : Bool) → ((f && not x) && not y) ≡ (f && not (x || y))
+and_both true true y = refl
+and_both true false y = refl
+and_both false x y = refl
+
+-- Blocks were set aside before it, which its map has.
+module _ (t u w : TablesView) (n ino : ℕ) (fresh : List ℕ) (x : Inode) (es : List Extent) (b : List Record) (c : NewChain)
+    (aside : IsSetAside n fresh t u) (gone : HasGoneOver ino x es u w b c) where
+  pub fresh-aside : t.aside ≡ [] → AreKeptBack t → IsWhole t.volume → ino < length t.volume.inodes
+      → ((k : ℕ) → in_chain fresh k ≤ in_map es k) → SetsFreedAside t w
+  fresh-aside idle back whole below has =
+      freed-aside t w (fresh ++ c.blocks) idle back gone.back (gone.waiting ∙ aside-waiting t u n fresh aside)
+      (λ k. gone.free k ∙ ap (λ f. f && not (is_among c.blocks k)) (left-free t u n fresh aside k)
+      ∙ and_both (is_free_block t k) (is_among fresh k) (is_among c.blocks k)
+      ∙ ap (λ a. is_free_block t k && not a) (sym (among-append fresh c.blocks k)))
+      (λ k among. in-use w.volume ino k below-now
+      (omega (
+        arith,
+        among-counted (fresh ++ c.blocks) k among,
+        in_chain-append fresh c.blocks k,
+        has k,
+        ap (λ ks. in_chain ks k) gone.chain_is,
+        ap (λ fs. in_map fs k) map-is,
+      )))
+    where
+      after : w.volume ≡ switched ino x c.blocks es t.volume
+      after = gone.after ∙ ap (switched ino x c.blocks es) (aside-volume t u n fresh aside)
+
+      below-now : ino < length w.volume.inodes
+      below-now = omega (arith, below, switched-below t.volume w.volume ino x c.blocks es after)
+
+      map-is : extents w.volume ino ≡ es
+      map-is = ap (λ (y : Volume). extents y ino) after
+          ∙ extents-set_same ino (with_map c.blocks es x) c.blocks es t.volume (omega (arith, below, whole.maps.map_count))
 
 -- ---- the line of an inode with a map
 
@@ -129,20 +228,20 @@ fields-fit x blocks es holder fields size above = by x.kind holder fields
 pub data-above : (v : Volume) (b : ℕ) → is_data_block v.geometry b ≡ true → 1 ≤ b
 data-above v b in_data = grind (arith, nat_tests, in_data)
 
-module _ (t u : TablesView) (n ino : ℕ) (x : Inode) (blocks : List ℕ) (es freed : List Extent) (waiting : List ℕ)
+module _ (t u : TablesView) (n ino : ℕ) (x : Inode) (blocks : List ℕ) (es freed : List Extent) (after : List ℕ)
     (aside : IsSetAside n blocks t u) (may : MayGoOver t ino x es freed) where
   pub may-switch : n ≡ chains_for (length es)
-      → ((b : ℕ) → in_chain waiting b ≡ in_chain (chain t.volume ino) b + in_map freed b)
-      → MaySwitch u.volume u.waiting ino x blocks es waiting
-  may-switch size waits =
-      subst (λ (y : TablesView). MaySwitch y.volume y.waiting ino x blocks es waiting) (sym aside.after) (record {
+      → ((b : ℕ) → in_chain after b ≡ in_chain (chain t.volume ino) b + in_map freed b)
+      → MaySwitch u.volume u.aside ino x blocks es after
+  may-switch size has =
+      subst (λ (y : TablesView). MaySwitch y.volume y.aside ino x blocks es after) (sym aside.after) (record {
         below = may.below;
         kind = may.kind;
         fields = fields-fit x blocks es may.holder may.fields (aside.lowest.count ∙ size) (λ k d below.
             data-above t.volume (get_or blocks k d) (unused-data t.volume (get_or blocks k d) (free-unused t (get_or blocks k d) (aside.lowest.were_free k d below))));
         short = may.short;
         once = both-once t u n blocks aside may.once;
-        same = λ b. omega (arith, waits b, in_chain-append t.waiting blocks b, may.same b);
+        same = λ b. omega (arith, has b, in_chain-append t.aside blocks b, may.same b);
       })
 
 -- the chain that it has then

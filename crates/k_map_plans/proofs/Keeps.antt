@@ -22,8 +22,8 @@ pub own-line : (v : Volume) (ino : ℕ) (x : Inode) → HasOwnMap v ino → x.ro
     → with_map (chain v ino) (extents v ino) x ≡ x
 own-line v ino x own root count i = record x { root = (own.root ∙ sym root) i; extents = (own.count ∙ sym count) i }
 
-module _ (t : TablesView) (ino : ℕ) (x : Inode) (blocks : List ℕ) (es : List Extent) (waiting : List ℕ) (may : MayKeep t ino x)
-    (blocks-are : blocks ≡ chain t.volume ino) (map-is : es ≡ extents t.volume ino) (none : waiting ≡ []) where
+module _ (t : TablesView) (ino : ℕ) (x : Inode) (blocks : List ℕ) (es : List Extent) (aside : List ℕ) (may : MayKeep t ino x)
+    (blocks-are : blocks ≡ chain t.volume ino) (map-is : es ≡ extents t.volume ino) (none : aside ≡ []) where
   own-may : IsWhole t.volume → MaySwitch t.volume [] ino x (chain t.volume ino) (extents t.volume ino) []
   own-may whole = record {
     below = may.below;
@@ -35,22 +35,22 @@ module _ (t : TablesView) (ino : ℕ) (x : Inode) (blocks : List ℕ) (es : List
     same = λ b. refl;
   }
 
-  pub keep-may : IsWhole t.volume → MaySwitch t.volume t.waiting ino x blocks es waiting
+  pub keep-may : IsWhole t.volume → MaySwitch t.volume t.aside ino x blocks es aside
   keep-may whole =
-      subst (λ waits. MaySwitch t.volume waits ino x blocks es waiting) (sym may.idle)
-      (subst (λ wait. MaySwitch t.volume [] ino x blocks es wait) (sym none)
+      subst (λ was. MaySwitch t.volume was ino x blocks es aside) (sym may.idle)
+      (subst (λ now. MaySwitch t.volume [] ino x blocks es now) (sym none)
       (subst (λ fs. MaySwitch t.volume [] ino x blocks fs []) (sym map-is)
       (subst (λ bs. MaySwitch t.volume [] ino x bs (extents t.volume ino) []) (sym blocks-are) (own-may whole))))
 
   -- the tables have no other volume than that
-  pub keep-is : (u : TablesView) → u ≡ switched_tables ino x blocks es waiting t → u ≡ with_volume (kept_map ino x t.volume) t
+  pub keep-is : (u : TablesView) → u ≡ switched_tables ino x blocks es aside t → u ≡ with_volume (kept_map ino x t.volume) t
   keep-is u is = is ∙ (λ i. switched_tables ino x (blocks-are i) (map-is i) ((none ∙ sym may.idle) i) t)
 
   own-map : IsMapFrom [] t.volume ino (with_map blocks es x) blocks es
   own-map = SameMap (ap (λ bs. (with_map bs es x).root) blocks-are ∙ may.own.root) (ap (λ fs. (with_map blocks fs x).extents) map-is ∙ may.own.count)
       blocks-are map-is
 
-  pub keep-plan : (u : TablesView) (a b : List Record) → u ≡ switched_tables ino x blocks es waiting t → a ≡ [] → 0 < length b
+  pub keep-plan : (u : TablesView) (a b : List Record) → u ≡ switched_tables ino x blocks es aside t → a ≡ [] → 0 < length b
       → length b ≤ length a + 1 → IsWhole u.volume
       → (IsMapFrom [] t.volume ino (with_map blocks es x) blocks es
       → Turns t.volume.geometry [] t.volume t.volume a → Turns t.volume.geometry [] t.volume u.volume b)

@@ -11,7 +11,8 @@ use Rattle.k_plans.specs.layout_model.Places.{is_data_block, reserve}
 use Rattle.k_plans.specs.image_model.Placed.{AreDistinct, block_at}
 use Rattle.k_relink.specs.extent_model.Counts.{length-le}
 use Rattle.k_plans.specs.Maps.{AreApart}
-use Rattle.k_plans.specs.Free.{is_free_block}
+use Rattle.k_plans.specs.block_pool.FreeSets.{is_among}
+use Rattle.k_plans.specs.Free.{AreKeptBack, SetsFreedAside, is_free_block}
 use Rattle.k_plans.specs.image_model.Rules.{file_blocks_of}
 use Rattle.k_plans.specs.image_model.Volume.{Volume, chain, extents, inode}
 use Rattle.k_relink.specs.extent_model.Extents.{IsCanonical, disk_at, is_within}
@@ -19,11 +20,11 @@ use Rattle.k_relink.specs.extent_model.Moves.{Moves}
 use Rattle.k_plans.specs.Switching.{IsMapPlan, IsSetAside}
 use Rattle.k_plans.specs.View.{TablesView}
 use Rattle.k_plans.specs.Whole.{IsWhole}
-use Rattle.k_plans.specs.volume_laws.Changes.{chain-set_other, extents-set_other, inode-set_other}
+use Rattle.k_plans.specs.volume_laws.Changes.{chain-set_other, chain-set_same, extents-set_other, inode-set_other}
 use Rattle.k_plans.specs.volume_change_laws.Bounds.{map-bound, own-data, own-once}
 use Rattle.k_plans.specs.volume_change_laws.Hits.{AreAt, in_chain-append, in_map-left, in_map-linked}
 use Rattle.k_plans.specs.volume_change_laws.Shorts.{AreBelow, length-below, mapped-below, part-below}
-use Rattle.k_plans.specs.volume_change_laws.Switches.{MaySwitch, StandsWith, unused-data, wait-once}
+use Rattle.k_plans.specs.volume_change_laws.Switches.{MaySwitch, among-counted, StandsWith, unused-data, wait-once}
 use Rattle.k_plans.specs.volume_change_laws.TakenLaws.{rising-distinct, rising-once}
 use Rattle.k_plans.specs.volume_laws.OwnerLaws.{two-le-owners}
 use Rattle.k_plans.specs.volume_laws.UseLaws.{in_chain-at, length-uses_by}
@@ -34,9 +35,9 @@ use Rattle.k_plans.specs.LandingsPlans.{IsMapFrom, NewChain, Turns, blocks_of, n
 use Rattle.k_plans.specs.k_split_model.MapChangesChanges.{with_length}
 use Rattle.k_plans.specs.k_split_model.Taken.{AreLowest, switched, with_map}
 use Rattle.k_plans.specs.k_split_model.declared.map_changes.moves.Move.{Move}
-use Rattle.k_map_plans.specs.Moving.{MayGoBoth, left_volume}
-use Rattle.k_map_plans.specs.Plans.{MayMove}
-use Rattle.k_map_plans.proofs.Goings.{aside-unused, data-above, fields-fit, free-unused}
+use Rattle.k_map_plans.specs.Moving.{MayGoBoth, left_volume, moved_volume}
+use Rattle.k_map_plans.specs.Plans.{MayMove, WantsToMove}
+use Rattle.k_map_plans.proofs.Goings.{aside-unused, aside-waiting, data-above, fields-fit, free-unused, freed-aside, in-use, left-free}
 use Rattle.k_map_plans.proofs.Sizes.{file-fields, file-short}
 use Rattle.k_map_plans.proofs.Stagings.{staging-fields}
 
@@ -125,19 +126,23 @@ module _ (v : Volume) (m : Move) (left linked displaced : List Extent) (moved : 
             own-data v m.staging b whole.kept.kept whole.kept.all may.staging.below (omega (arith, has, none, linked-blocks b, left-blocks b))
       ])
 
-  -- A move finds its chains: `reserve - 2` free blocks are enough.
-  pub move-room : (free : ℕ) → reserve v.geometry ≤ free + 2 → chains_for (length linked) + chains_for (length left) ≤ free
-  move-room free enough = omega (arith, linked-room, enough, length-below left 64 moves.source.canonical left-below)
+  -- what it wants, where so many blocks are not free
+  pub move-few : (free : ℕ) → free < chains_for (length linked) + chains_for (length left)
+      → ((n : ℕ) × WantsToMove m v n × (free < n)) × (free + 2 < reserve v.geometry)
+  move-few free few = (
+    (chains_for (length linked) + chains_for (length left), (left, linked, displaced, moves, refl), few),
+    omega (arith, few, linked-room, length-below left 64 moves.source.canonical left-below),
+  )
 
   -- the blocks that were set aside are those of the two chains
-  module _ (t u : TablesView) (n r : ℕ) (taken blocks rest gone freed : List ℕ) (is : t.volume ≡ v) (idle : t.waiting ≡ [])
+  module _ (t u : TablesView) (n r : ℕ) (taken blocks rest gone freed : List ℕ) (is : t.volume ≡ v) (idle : t.aside ≡ [])
       (aside : IsSetAside (n + r) taken t u) (n_is : n ≡ chains_for (length linked)) (r_is : r ≡ chains_for (length left))
       (blocks_size : length blocks ≡ n) (rest_size : length rest ≡ r) (parts : taken ≡ blocks ++ rest)
       (goes : (b : ℕ) → in_chain gone b ≡ in_chain (chain v m.staging) b + in_chain moved b + in_chain blocks b)
       (frees : (b : ℕ) → in_chain freed b ≡ in_chain (chain v m.staging) b + in_chain (chain v m.ino) b + in_map displaced b) where
-    waits-now : (b : ℕ) → in_chain u.waiting b ≡ in_chain blocks b + in_chain rest b
-    waits-now b =
-        ap (λ (y : TablesView). in_chain y.waiting b) aside.after
+    aside-now : (b : ℕ) → in_chain u.aside b ≡ in_chain blocks b + in_chain rest b
+    aside-now b =
+        ap (λ (y : TablesView). in_chain y.aside b) aside.after
         ∙ (λ i. in_chain (idle i ++ parts i) b)
         ∙ in_chain-append blocks rest b
 
@@ -152,19 +157,19 @@ module _ (v : Volume) (m : Move) (left linked displaced : List Extent) (moved : 
         let has : 1 ≤ in_chain bs b = in_chain-at bs k b below (sym (get_or_default_zero bs k d below)) in
         data-above v b (unused-data v b (taken-unused b (omega (arith, has, within b))))
 
-    stands : StandsWith v u.waiting
+    stands : StandsWith v u.aside
     stands = record {
       kept = whole.kept.kept;
       lines = whole.kept.all;
       maps = whole.maps;
       chains = whole.chains;
-      unused = λ b waits. taken-unused b (omega (arith, waits, waits-now b));
+      unused = λ b has. taken-unused b (omega (arith, has, aside-now b));
     }
 
     staging-line : Inode
     staging-line = inode v m.staging
 
-    first : MaySwitch v u.waiting m.staging staging-line rest left gone
+    first : MaySwitch v u.aside m.staging staging-line rest left gone
     unfolding staging-line
     first = record {
       below = may.staging.below;
@@ -172,8 +177,8 @@ module _ (v : Volume) (m : Move) (left linked displaced : List Extent) (moved : 
       fields = fields-fit staging-line rest left (inr may.staging.kind)
           (staging-fields staging-line staging-line may.staging.kind (whole.inodes m.staging) may.staging.kind refl refl) (rest_size ∙ r_is) (above rest (λ b. omega arith));
       short = subst (λ kind. All (λ (e : Extent). e.file + e.count ≤ file_blocks_of kind) left) (sym may.staging.kind) left-below;
-      once = λ b. omega (arith, waits-now b, in_chain-append blocks rest b, ap (λ bs. in_chain bs b) parts, rising-once taken b aside.lowest.rising);
-      same = λ b. omega (arith, goes b, waits-now b, left-blocks b);
+      once = λ b. omega (arith, aside-now b, in_chain-append blocks rest b, ap (λ bs. in_chain bs b) parts, rising-once taken b aside.lowest.rising);
+      same = λ b. omega (arith, goes b, aside-now b, left-blocks b);
     }
 
     v2 : Volume
@@ -195,7 +200,7 @@ module _ (v : Volume) (m : Move) (left linked displaced : List Extent) (moved : 
           fields = fields-fit line blocks linked (inl may.file.file)
               (file-fields line may.file.file may.size may.applied) (blocks_size ∙ n_is) (above blocks (λ b. omega arith));
           short = file-short line linked may.file.file moves.canonical;
-          once = wait-once v u.waiting m.staging (inode v m.staging) rest left gone stands moves.source.canonical first;
+          once = wait-once v u.aside m.staging (inode v m.staging) rest left gone stands moves.source.canonical first;
           same = λ b.
               omega (
                 arith,
@@ -212,10 +217,54 @@ module _ (v : Volume) (m : Move) (left linked displaced : List Extent) (moved : 
     both-may =
         let same : u.volume ≡ v = ap (λ (y : TablesView). y.volume) aside.after ∙ is in
         record {
-          staging = subst (λ (y : Volume). MaySwitch y u.waiting m.staging (inode y m.staging) rest left gone) (sym same) first;
+          staging = subst (λ (y : Volume). MaySwitch y u.aside m.staging (inode y m.staging) rest left gone) (sym same) first;
           file = subst (λ (y : Volume). MaySwitch (left_volume m left rest y) gone m.ino (with_length m.size m.applied (inode y m.ino)) blocks linked freed) (sym same) second;
           file_below = omega (arith, may.file.below, ap (λ (y : Volume). length y.inodes) same);
         }
+
+-- ---- what came free
+
+module _ (t u w : TablesView) (m : Move) (n : ℕ) (left linked : List Extent) (blocks rest : List ℕ) (aside : IsSetAside n (blocks ++ rest) t u)
+    (whole : IsWhole t.volume) (may : MayMove m t.volume) (is : w.volume ≡ moved_volume m left rest linked blocks t.volume) where
+  inodes-same : length w.volume.inodes ≡ length t.volume.inodes
+  inodes-same =
+      ap (λ (y : Volume). length y.inodes) is
+      ∙ length-set (left_volume m left rest t.volume).inodes m.ino (with_map blocks linked (with_length m.size m.applied (inode t.volume m.ino)))
+      ∙ length-set t.volume.inodes m.staging (with_map rest left (inode t.volume m.staging))
+
+  file-chain : chain w.volume m.ino ≡ blocks
+  file-chain =
+      ap (λ (y : Volume). chain y m.ino) is
+      ∙ chain-set_same m.ino (with_map blocks linked (with_length m.size m.applied (inode t.volume m.ino))) blocks linked (left_volume m left rest t.volume)
+      (omega (arith, may.file.below, whole.maps.chain_count, length-set t.volume.chains m.staging rest))
+
+  staging-chain : chain w.volume m.staging ≡ rest
+  staging-chain =
+      ap (λ (y : Volume). chain y m.staging) is
+      ∙ chain-set_other m.ino (with_map blocks linked (with_length m.size m.applied (inode t.volume m.ino))) blocks linked (left_volume m left rest t.volume)
+      m.staging (λ same. staging-file t.volume m may (sym same))
+      ∙ chain-set_same m.staging (with_map rest left (inode t.volume m.staging)) rest left t.volume (omega (arith, may.staging.below, whole.maps.chain_count))
+
+  now-used : (b : ℕ) → is_among (blocks ++ rest) b ≡ true → is_unused w.volume b ≡ false
+  now-used b among = elim (cases_lt 0 (in_chain blocks b)) [
+    | inl file ↦
+        in-use w.volume m.ino b (omega (arith, may.file.below, inodes-same)) (omega (arith, file, ap (λ ks. in_chain ks b) file-chain))
+    | inr other ↦
+        in-use w.volume m.staging b (omega (arith, may.staging.below, inodes-same))
+        (omega (
+          arith,
+          other,
+          among-counted (blocks ++ rest) b among,
+          in_chain-append blocks rest b,
+          ap (λ ks. in_chain ks b) staging-chain,
+        ))
+  ]
+
+  pub moved-aside : t.aside ≡ [] → AreKeptBack t → AreKeptBack w → w.waiting ≡ u.waiting
+      → ((b : ℕ) → is_free_block w b ≡ is_free_block u b) → SetsFreedAside t w
+  moved-aside idle old new same free =
+      freed-aside t w (blocks ++ rest) idle old new (same ∙ aside-waiting t u n (blocks ++ rest) aside)
+      (λ b. free b ∙ left-free t u n (blocks ++ rest) aside b) now-used
 
 -- the same with equal maps and chains
 pub go-both-as : (m : Move) (u : TablesView) (left left1 : List Extent) (rest rest1 gone : List ℕ) (linked linked1 : List Extent)

@@ -12,6 +12,7 @@ use Rattle.layout_model.specs.Lines.{has_map_or_none, is_inode, is_inode_of_kind
 use Rattle.k_plans.specs.image_model.Volume.{Volume, extents, inode}
 use Rattle.k_plans.specs.k_journal.declared.batches.Record.{Record}
 use Rattle.k_map_plans.specs.Plans.{IsLiveFile}
+use Rattle.k_plans.specs.Free.{SetsFreedAside}
 use Rattle.k_plans.specs.Switching.{IsMapPlan}
 use Rattle.k_plans.specs.View.{TablesView, with_volume}
 use Rattle.k_map_plans.specs.Going.{HasOwnMap, kept_map, MayKeep}
@@ -29,7 +30,7 @@ unapplied-fields x file fits =
     parts true false c both = let never : false ≡ true = both in absurd (both_ways false refl never)
     parts false b c both = both
 
-pub reset-may : (t : TablesView) (ino : ℕ) → HasOwnMap t.volume ino → IsLiveFile ino t.volume → t.waiting ≡ []
+pub reset-may : (t : TablesView) (ino : ℕ) → HasOwnMap t.volume ino → IsLiveFile ino t.volume → t.aside ≡ []
     → MayKeep t ino (unapplied (inode t.volume ino))
 reset-may t ino own file idle = record {
   below = file.below;
@@ -51,17 +52,18 @@ kept-reset v ino own i =
 
 pub reset-answer : (t u : TablesView) (ino : ℕ) (b : List Record) (r : Result (Unit {0}) AllocError) → HasOwnMap t.volume ino
     → OnOk r (u ≡ with_volume (kept_map ino (unapplied (inode t.volume ino)) t.volume) t) → OnOk r (IsMapPlan [] t.volume u.volume b)
-    → OnErr r (u ≡ t) → OnErr r (b ≡ []) → IsResetPlan ino t u b r
-reset-answer t u ino b (Ok done) own kept plan same none =
+    → OnOk r (SetsFreedAside t u) → OnErr r (u ≡ t) → OnErr r (b ≡ []) → IsResetPlan ino t u b r
+reset-answer t u ino b (Ok done) own kept plan aside same none =
     let now : u ≡ with_volume (reset ino t.volume) t = kept ∙ (λ i. with_volume (kept-reset t.volume ino own i) t) in (
       now,
       record {
         turns = plan.turns;
         some = plan.some;
         most = plan.most;
+        aside = aside;
         waiting = ap (λ (x : TablesView). x.waiting) now;
         staged = λ n least most. ap (λ (x : TablesView). extents x.volume n) now;
         whole = plan.whole;
       },
     )
-reset-answer t u ino b (Err e) own kept plan same none = record { same = same; no_lines = none }
+reset-answer t u ino b (Err e) own kept plan aside same none = record { same = same; no_lines = none }

@@ -28,7 +28,7 @@ use Rattle.k_plans.specs.volume_change_laws.Hits.{in_map-parts}
 use Rattle.k_plans.specs.volume_laws.Changes.{extents-set_same}
 use Rattle.k_plans.specs.volume_laws.Uses.{in_chain}
 use Rattle.k_map_plans.specs.Going.{HasOwnMap, kept_map, MayGoOver, MayKeep}
-use Rattle.k_map_plans.specs.Plans.{IsLiveFile}
+use Rattle.k_map_plans.specs.Plans.{IsLiveFile, WantsToCut}
 use Rattle.k_map_plans.proofs.Keeps.{own-line}
 
 -- ---- the line of a file
@@ -53,39 +53,34 @@ pub file-short : (x : Inode) (es : List Extent) → x.kind ≡ File → IsCanoni
 file-short x es file canonical k d below =
     subst (λ (kind : Kind). (get_or es k d).file + (get_or es k d).count ≤ file_blocks_of kind) (sym file) (canonical.each k d below).in_file
 
--- nothing waits
-pub none-waits : (waiting : List ℕ) → waiting ≡ [] → (b : ℕ) → in_chain waiting b ≡ 0
-none-waits waiting none b = ap (λ ws. in_chain ws b) none
+-- nothing is set aside
+pub none-aside : (aside : List ℕ) → aside ≡ [] → (b : ℕ) → in_chain aside b ≡ 0
+none-aside aside none b = ap (λ ks. in_chain ks b) none
 
 -- ---- its map
 
 other-end : (from k : ℕ) → nat_le from k ≡ not (nat_lt k from)
 other-end from k = grind (arith, nat_tests)
 
-pub size-may : (t : TablesView) (ino size : ℕ) (es freed : List Extent) → IsWhole t.volume → t.waiting ≡ [] → IsLiveFile ino t.volume
-    → size ≤ LONGEST_FILE → reserve t.volume.geometry ≤ free_blocks t + 3 → IsCanonical (extents t.volume ino)
+pub size-may : (t : TablesView) (ino size : ℕ) (es freed : List Extent) → IsWhole t.volume → t.aside ≡ [] → IsLiveFile ino t.volume
+    → size ≤ LONGEST_FILE → IsCanonical (extents t.volume ino)
     → IsPart (λ b. nat_lt b (blocks_for size)) (extents t.volume ino) es → IsPart (λ b. nat_le (blocks_for size) b) (extents t.volume ino) freed
     → MayGoOver t ino (with_size size (inode t.volume ino)) es freed
-size-may t ino size es freed whole idle file few room canonical cut gone = record {
+size-may t ino size es freed whole idle file few canonical cut gone = record {
   below = file.below;
   kind = refl;
   holder = inl file.file;
   fields = file-fields (with_size size (inode t.volume ino)) file.file few
       (file-applied (inode t.volume ino) file.file (whole.inodes ino));
   short = file-short (with_size size (inode t.volume ino)) es file.file cut.canonical;
-  once = λ b. omega (arith, none-waits t.waiting idle b);
+  once = λ b. omega (arith, none-aside t.aside idle b);
   same = λ b.
       omega (
         arith,
         in_map-parts (λ k. nat_lt k (blocks_for size)) (λ k. nat_le (blocks_for size) k) (extents t.volume ino) es freed b canonical cut gone
             (other-end (blocks_for size)),
-        none-waits t.waiting idle b,
+        none-aside t.aside idle b,
       );
-  room = omega (
-    arith,
-    part-bound t.volume ino (λ k. nat_lt k (blocks_for size)) es whole.kept.kept whole.kept.all file.below canonical cut,
-    room,
-  );
 }
 
 -- ---- nothing is cut off, or something is
@@ -137,6 +132,20 @@ some-cut n es left (e ∷ freed) cut gone some same = elim (cases_lt e.file n) [
   here : disk_at (e ∷ freed) e.file ≡ Some e.disk
   here = first_here e freed gone.canonical
 
+-- what it wants where something is cut off, and where so many blocks are not free
+pub cut-few : (t : TablesView) (ino size : ℕ) (es freed : List Extent) → IsWhole t.volume → IsLiveFile ino t.volume
+    → IsCanonical (extents t.volume ino) → IsPart (λ b. nat_lt b (blocks_for size)) (extents t.volume ino) es
+    → IsPart (λ b. nat_le (blocks_for size) b) (extents t.volume ino) freed → freed ≢ [] → free_blocks t < chains_for (length es)
+    → ((n : ℕ) × WantsToCut ino size t.volume n × (free_blocks t < n)) × (free_blocks t + 3 < reserve t.volume.geometry)
+cut-few t ino size es freed whole file canonical cut gone some few = (
+  (chains_for (length es), (es, cut, some-cut (blocks_for size) (extents t.volume ino) es freed cut gone some, refl), few),
+  omega (
+    arith,
+    few,
+    part-bound t.volume ino (λ k. nat_lt k (blocks_for size)) es whole.kept.kept whole.kept.all file.below canonical cut,
+  ),
+)
+
 -- ---- the line alone
 
 -- a file may have its line with another size
@@ -148,7 +157,7 @@ sized-fields x size file few fits =
     parts : (own : Bool) → (nat_le x.size LONGEST_FILE && nat_le x.applied (2 ^ 63) && own) ≡ true → (nat_le size LONGEST_FILE && nat_le x.applied (2 ^ 63) && own) ≡ true
     parts own fits = grind (arith, nat_tests, fits, few)
 
-pub size-keep : (t : TablesView) (ino size : ℕ) → HasOwnMap t.volume ino → IsLiveFile ino t.volume → t.waiting ≡ [] → size ≤ LONGEST_FILE
+pub size-keep : (t : TablesView) (ino size : ℕ) → HasOwnMap t.volume ino → IsLiveFile ino t.volume → t.aside ≡ [] → size ≤ LONGEST_FILE
     → MayKeep t ino (with_size size (inode t.volume ino))
 size-keep t ino size own file idle few = record {
   below = file.below;

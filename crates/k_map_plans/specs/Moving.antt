@@ -16,10 +16,10 @@ abbrev pub moved_volume : Move → List Extent → List ℕ → List Extent → 
 moved_volume m left rest linked blocks v =
     switched m.ino (with_length m.size m.applied (inode v m.ino)) blocks linked (left_volume m left rest v)
 
--- The staging file may go over to what is left, where `gone` waits then; and the file may go over to its map after it, where
--- `freed` waits.
+-- The staging file may go over to what is left, where `gone` is set aside then; and the file may go over to its map after it,
+-- where `freed` is.
 pub record MayGoBoth (m : Move) (t : TablesView) (left : List Extent) (rest gone : List ℕ) (linked : List Extent)
     (blocks freed : List ℕ) : Type 0 where
-  pub staging : MaySwitch t.volume t.waiting m.staging (inode t.volume m.staging) rest left gone
+  pub staging : MaySwitch t.volume t.aside m.staging (inode t.volume m.staging) rest left gone
   pub file : MaySwitch (left_volume m left rest t.volume) gone m.ino (with_length m.size m.applied (inode t.volume m.ino)) blocks linked freed
   pub file_below : m.ino < length t.volume.inodes

@@ -1,5 +1,5 @@
 -- What the plans of changes of maps answer and leave.
-use Rattle.std.specs.Prelude.{◌≡◌, ◌≤◌, ◌<◌, ◌+◌, ◌-◌, ◌^◌, ◌==◌, nat_lt, ℕ, Bool, true, false, List, [], ◌∷◌, length, Option, None, Some, Result, Ok, Err}
+use Rattle.std.specs.Prelude.{◌≡◌, ◌≢◌, ◌≤◌, ◌<◌, ◌+◌, ◌-◌, ◌^◌, ◌==◌, nat_lt, ℕ, Bool, true, false, List, [], ◌∷◌, length, Option, None, Some, Result, Ok, Err}
 use Rattle.std.specs.declared.alloc.AllocError.{AllocError}
 use Rattle.layout_model.specs.declared.lines.Kind.TheVariants.{File, Staging}
 use Rattle.k_plans.specs.layout_model.Places.{reserve}
@@ -7,13 +7,17 @@ use Rattle.k_plans.specs.image_model.Volume.{Volume, chain, extents, inode}
 use Rattle.k_relink.specs.extent_model.declared.extent_words.Extent.{Extent}
 use Rattle.k_plans.specs.k_journal.declared.batches.Record.{Record}
 use Rattle.k_plans.specs.LandingsPlans.{NewChain, blocks_of}
-use Rattle.k_plans.specs.Free.{free_blocks, is_free_block}
+use Rattle.k_plans.specs.Free.{SetsFreedAside, free_blocks, is_free_block}
 use Rattle.k_plans.specs.Switching.{IsMapPlan}
 use Rattle.k_plans.specs.View.{TablesView}
-use Rattle.k_plans.specs.k_split_model.MapChangesChanges.{given_up, holes, IsFilled, IsMoved, IsPreallocated, IsSized, WritesChain}
+use Rattle.k_plans.specs.k_split_model.MapChangesChanges.{Fills, HasInOrder, given_up, holes, IsFilled, IsMoved, IsPreallocated, IsSized, WritesChain}
+use Rattle.k_plans.specs.k_split_model.Taken.{AreLowest}
 use Rattle.k_plans.specs.k_split_model.declared.map_changes.moves.Move.{Move}
-use Rattle.k_relink.specs.extent_model.Moves.{IsMapped}
+use Rattle.k_relink.specs.extent_model.Maps.{IsPart}
+use Rattle.k_relink.specs.extent_model.Moves.{IsMapped, Moves}
+use Rattle.block_counts.specs.Counts.{blocks_for, chains_for}
 use Rattle.layout_model.specs.block_counts.declared.TheConstants.{LONGEST_FILE}
+use Rattle.k_map_plans.specs.declared.map_plans.faults.MapFault.{MapFault}
 use Rattle.posix_types.specs.declared.item.Outcome.{Outcome}
 use Rattle.posix_types.specs.declared.reply.Errno.{Errno}
 use Rattle.posix_types.specs.declared.reply.Reply.{Reply}
@@ -31,15 +35,21 @@ pub record IsStagingFile (staging : ℕ) (v : Volume) : Type 0 where
   pub below : staging < length v.inodes
   pub kind : (inode v staging).kind ≡ Staging
 
--- where memory runs out nothing is changed, and nothing is planned
+-- a change that is not planned: nothing is changed, and no line is set
 pub record IsNotPlanned (old new : TablesView) (b : List Record) : Type 0 where
   pub same : new ≡ old
   pub no_lines : b ≡ []
+
+-- The change wants more blocks than are free; nothing is changed. Or there is no memory for it.
+abbrev pub IsNotMade : (ℕ → Type 0) → TablesView → TablesView → List Record → MapFault → Type 0
+IsNotMade wants old new b MapFault.Few = ((n : ℕ) × wants n × (free_blocks old < n)) × IsNotPlanned old new b
+IsNotMade wants old new b MapFault.NoMemory = IsNotPlanned old new b
 
 -- a change is planned, with one new map, that of the inode
 pub record IsPlannedOne (ino : ℕ) (old new : TablesView) (b : List Record) (c : NewChain) : Type 0 where
   pub plan : IsMapPlan (c ∷ []) old.volume new.volume b
   pub chain_is : c.blocks ≡ chain new.volume ino
+  pub aside : SetsFreedAside old new
   pub waiting : new.waiting ≡ old.waiting
 
 -- the new maps of a plan that may need none
@@ -51,12 +61,19 @@ listed (Some c) = c ∷ []
 pub record IsPlannedChange (ino : ℕ) (old new : TablesView) (b : List Record) (o : Option NewChain) : Type 0 where
   pub plan : IsMapPlan (listed o) old.volume new.volume b
   pub written : WritesChain ino old.volume new.volume (blocks_of (listed o))
+  pub aside : SetsFreedAside old new
   pub waiting : new.waiting ≡ old.waiting
 
+-- How many blocks a cut wants: where something is cut off, those of a chain for what is left of the map.
+abbrev pub WantsToCut : ℕ → ℕ → Volume → ℕ → Type 0
+WantsToCut ino size v n =
+    (es : List Extent) × IsPart (λ b. nat_lt b (blocks_for size)) (extents v ino) es × (es ≢ extents v ino)
+    × (n ≡ chains_for (length es))
+
 -- a file gets a size
-abbrev pub IsSizePlan : ℕ → ℕ → TablesView → TablesView → List Record → Result (Option NewChain) AllocError → Type 0
+abbrev pub IsSizePlan : ℕ → ℕ → TablesView → TablesView → List Record → Result (Option NewChain) MapFault → Type 0
 IsSizePlan ino size old new b (Ok o) = IsSized (is_free_block old) ino size old.volume new.volume × IsPlannedChange ino old new b o
-IsSizePlan ino size old new b (Err e) = IsNotPlanned old new b
+IsSizePlan ino size old new b (Err fault) = IsNotMade (WantsToCut ino size old.volume) old new b fault
 
 -- What stands against filling so many holes: nothing is to be done where there is none, and ENOSPC where fewer blocks are free
 -- than they and the reserve less 2.
@@ -81,6 +98,13 @@ pub record MayFill (ino from count : ℕ) (t : TablesView) : Type 0 where
   pub some : 0 < length (holes (extents t.volume ino) from count)
   pub room : length (holes (extents t.volume ino) from count) + reserve t.volume.geometry ≤ free_blocks t + 2
 
+-- How many blocks filling wants: one a hole; and where so many are free, those of a chain for the new map besides.
+pub data WantsToFill (ino from count : ℕ) (t : TablesView) (n : ℕ) : Type 0 where
+  Holes : n ≡ length (holes (extents t.volume ino) from count) → WantsToFill ino from count t n
+  Chain : (fresh : List ℕ) (es : List Extent) → AreLowest (is_free_block t) (length fresh) fresh
+      → Fills from count fresh (extents t.volume ino) es → n ≡ length fresh + chains_for (length es)
+      → WantsToFill ino from count t n
+
 -- holes of a file get blocks: these are `fresh`, and the new map is c
 pub record IsFillPlan (ino first count : ℕ) (old new : TablesView) (b : List Record) (fresh : List ℕ) (c : NewChain) : Type 0 where
   pub filled : IsFilled (is_free_block old) ino first count old.volume new.volume fresh
@@ -91,11 +115,17 @@ abbrev pub IsGiveUpPlan : ℕ → TablesView → TablesView → List Record → 
 IsGiveUpPlan staging old new b (Ok c) = (new.volume ≡ given_up staging old.volume) × IsPlannedOne staging old new b c
 IsGiveUpPlan staging old new b (Err e) = IsNotPlanned old new b
 
+-- How many blocks a staging file wants: those that it is to have; and where so many are free, those of a chain besides.
+pub data WantsToPreallocate (count : ℕ) (t : TablesView) (n : ℕ) : Type 0 where
+  Blocks : n ≡ count → WantsToPreallocate count t n
+  Chain : (fresh : List ℕ) (es : List Extent) → AreLowest (is_free_block t) count fresh → HasInOrder fresh es
+      → n ≡ count + chains_for (length es) → WantsToPreallocate count t n
+
 -- a staging file gets blocks
-abbrev pub IsPreallocatePlan : ℕ → ℕ → TablesView → TablesView → List Record → Result NewChain AllocError → Type 0
+abbrev pub IsPreallocatePlan : ℕ → ℕ → TablesView → TablesView → List Record → Result NewChain MapFault → Type 0
 IsPreallocatePlan staging count old new b (Ok c) =
     IsPreallocated (is_free_block old) staging count old.volume new.volume × IsPlannedOne staging old new b c
-IsPreallocatePlan staging count old new b (Err e) = IsNotPlanned old new b
+IsPreallocatePlan staging count old new b (Err fault) = IsNotMade (WantsToPreallocate count old) old new b fault
 
 -- What a move asks for: a staging file that has its blocks, and a live file with place for them.
 pub record MayMove (m : Move) (v : Volume) : Type 0 where
@@ -112,10 +142,18 @@ pub record IsPlannedMove (m : Move) (old new : TablesView) (b : List Record) (fi
   pub plan : IsMapPlan (file ∷ staging ∷ []) old.volume new.volume b
   pub file_chain : file.blocks ≡ chain new.volume m.ino
   pub staging_chain : staging.blocks ≡ chain new.volume m.staging
+  pub aside : SetsFreedAside old new
   pub waiting : new.waiting ≡ old.waiting
 
+-- how many blocks a move wants: those of a chain for the file's map, and those of one for the staging file's
+abbrev pub WantsToMove : Move → Volume → ℕ → Type 0
+WantsToMove m v n =
+    (left linked displaced : List Extent)
+    × Moves m.staging_block m.file_block m.count (extents v m.staging) (extents v m.ino) left linked displaced
+    × (n ≡ chains_for (length linked) + chains_for (length left))
+
 -- blocks go from a staging file to a file
-abbrev pub IsMovePlan : Move → TablesView → TablesView → List Record → Result (NewChain × NewChain) AllocError → Type 0
+abbrev pub IsMovePlan : Move → TablesView → TablesView → List Record → Result (NewChain × NewChain) MapFault → Type 0
 IsMovePlan m old new b (Ok c) =
     ((displaced : List Extent) × IsMoved (is_free_block old) m old.volume new.volume displaced) × IsPlannedMove m old new b c.0 c.1
-IsMovePlan m old new b (Err e) = IsNotPlanned old new b
+IsMovePlan m old new b (Err fault) = IsNotMade (WantsToMove m old.volume) old new b fault

@@ -28,7 +28,7 @@ pub fn plan_reset(
     ino: u32,
 ) -> Result<(), AllocError>
     requires empty { batch.old ≡ [] }
-    requires idle { tables.old.waiting ≡ [] }
+    requires idle { tables.old.aside ≡ [] }
     requires file { IsLiveFile ino tables.old.volume }
     requires own { HasOwnMap tables.old.volume ino }
     ensures { IsResetPlan ino tables.old tables.new batch.new result }

@@ -1,12 +1,14 @@
 //! The changes of maps, planned on the tables.
 //!
 //! A plan sets free blocks aside, lets an inode go over to its new map, and puts its line into an
-//! empty `Batch`. It changes no map before it has all memory; blocks that nothing has any longer are
-//! free at its end, so that it has to be landed before another change is planned. The layer above may
-//! rely on this: the answer is one clause by cases, over the definitions of `k_split_model` (`IsSized`),
-//! and comes with the map that is to be written before the lines are landed (`IsMapPlan`); for want of
-//! memory tables and batch are as before.
+//! empty `Batch`. It changes no map before it has all memory. It begins with nothing set aside, and just
+//! the blocks that came free in it are set aside at its end: `release` makes them free, `hold` lets them
+//! wait. The layer above may rely on this: the answer is one clause by cases, over the definitions of
+//! `k_split_model` (`IsSized`), and comes with the map that is to be written before the lines are landed
+//! (`IsMapPlan`); where it wants more blocks than are free (`Few`), and for want of memory, tables and
+//! batch are as before.
 
+mod faults;
 mod filling;
 mod going;
 mod lists;
@@ -14,6 +16,7 @@ mod moving;
 mod sizing;
 mod staging;
 
+pub use faults::MapFault;
 pub use filling::{may_fill, plan_fill};
 pub(crate) use going::keep_map;
 pub use k_plans::{

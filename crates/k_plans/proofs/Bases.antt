@@ -27,13 +27,14 @@ base-whole base v whole = record {
 }
 
 module _ (t : TablesView) (base : ℕ) where
-  pub base-tables : (pool : FreeSet) → AreTables t pool → AreTables (with_volume (base_set base t.volume) t) pool
-  base-tables pool are = tables-same t (base_set base t.volume) pool are (base-whole base t.volume are.whole) refl (λ b. owners-base t.volume base b)
+  pub base-tables : (pool held : FreeSet) → AreTables t pool held → AreTables (with_volume (base_set base t.volume) t) pool held
+  base-tables pool held are = tables-same t (base_set base t.volume) pool held are (base-whole base t.volume are.whole) refl (λ b. owners-base t.volume base b)
 
   pub base-plan : (old : TablesView) (a b : List Record) → t ≡ old → IsWhole t.volume → a ≡ [] → 0 < length b → length b ≤ length a + 1
       → ((news : List NewChain) (v w : Volume) → Turns t.volume.geometry news v w a → Turns t.volume.geometry news v (base_set base w) b)
-      → IsPlan old (with_volume (base_set base t.volume) t) b
-  base-plan old a b same whole empty some count turns =
+      → old.aside ≡ [] → IsPlan old (with_volume (base_set base t.volume) t) b
+  base-plan old a b same whole empty some count turns idle =
       plan-from t old (with_volume (base_set base t.volume) t) (base_set base t.volume) b same refl
       (turns [] t.volume t.volume (subst (Turns t.volume.geometry [] t.volume t.volume) (sym empty) (turns-none t.volume.geometry [] t.volume)))
       some (omega (arith, count, ap length empty)) (λ ino least most. refl) (base-whole base t.volume whole)
+      idle refl (λ k. owners-base t.volume base k)

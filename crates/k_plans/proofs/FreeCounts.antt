@@ -1,7 +1,7 @@
 -- The free blocks of a pool, counted over the data blocks.
-use Rattle.std.proofs.Common.{◌≡◌, ℕ, zero, suc, ◌+◌, ◌<◌, ◌≤◌, Bool, true, false, List, [], length, refl, ◌∙◌, ap, arith}
+use Rattle.std.proofs.Common.{◌≡◌, ℕ, zero, suc, ◌+◌, ◌<◌, ◌≤◌, Bool, true, false, [], length, refl, ◌∙◌, ap, arith}
 use Rattle.std.proofs.lemmas.Bool.Decides.{nat_tests}
-use Rattle.std.specs.Prelude.{count_by, not, ◌&&◌}
+use Rattle.std.specs.Prelude.{count_by, not, ◌&&◌, ◌||◌}
 use Rattle.std.specs.List.{range_with_len}
 use Rattle.std.proofs.lemmas.List.Sums.{sum_by-cons}
 use Rattle.k_reading.specs.block_pool.Facts.{free_count-counted}
@@ -42,11 +42,11 @@ pool-counted t pool is =
     ∙ counted-range (is_free_at pool) (first_data t.volume.geometry) (data_blocks t.volume.geometry)
     ∙ count_by-agree (is_free_at pool) (is_free_block t) (first_data t.volume.geometry) (data_blocks t.volume.geometry) (λ b low high. is.free b)
 
--- where nothing waits
-pub unwaiting-counted : (t : TablesView) → t.waiting ≡ [] → free_blocks t ≡ unused_blocks t.volume
-unwaiting-counted t none =
+-- where nothing is set aside and nothing waits
+pub unwaiting-counted : (t : TablesView) → t.aside ≡ [] → t.waiting ≡ [] → free_blocks t ≡ unused_blocks t.volume
+unwaiting-counted t idle none =
     count_by-agree (is_free_block t) (λ b. has_none (owners t.volume b)) (first_data t.volume.geometry) (data_blocks t.volume.geometry) (λ b low high.
-    ap (λ (l : List ℕ). is_data_block t.volume.geometry b && has_none (owners t.volume b) && not (is_among l b)) none
+    (λ i. is_data_block t.volume.geometry b && has_none (owners t.volume b) && not (is_among (idle i) b || is_among (none i) b))
     ∙ inside b (has_none (owners t.volume b)) (in_data b low high))
   where
     in_data : (b : ℕ) → first_data t.volume.geometry ≤ b → b < first_data t.volume.geometry + data_blocks t.volume.geometry
@@ -58,5 +58,5 @@ unwaiting-counted t none =
     last false = refl
 
     inside : (b : ℕ) (unused : Bool) → is_data_block t.volume.geometry b ≡ true
-        → (is_data_block t.volume.geometry b && unused && not false) ≡ unused
+        → (is_data_block t.volume.geometry b && unused && not (false || false)) ≡ unused
     inside b unused is = rw is (last unused)

@@ -1,3 +1,4 @@
+pub mod Asides
 pub mod Bases
 pub mod Drops
 pub mod FreeCounts

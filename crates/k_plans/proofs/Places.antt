@@ -109,18 +109,18 @@ makes-made directory path place t node r names makes =
     λ i. with_lines place.ino (makes.node_is i) (names_are i) t
 
 pub makes-tables : (directory : Bool) (path : List (List ℕ)) (place : Place) (t : TablesView) (node : Inode) (r : NameRow) (names : Rows)
-    (pool : FreeSet) → AreTables t pool → MakesAt directory path place t node r names → AreTables (with_lines place.ino node names t) pool
-makes-tables directory path place t node r names pool are makes =
-    subst (λ u. AreTables u pool) (sym (makes-made directory path place t node r names makes))
-    (tables-same t (made_at directory path place t.volume) pool are (made-whole directory path place t.volume are.whole makes.is_place) refl
+    (pool held : FreeSet) → AreTables t pool held → MakesAt directory path place t node r names → AreTables (with_lines place.ino node names t) pool held
+makes-tables directory path place t node r names pool held are makes =
+    subst (λ u. AreTables u pool held) (sym (makes-made directory path place t node r names makes))
+    (tables-same t (made_at directory path place t.volume) pool held are (made-whole directory path place t.volume are.whole makes.is_place) refl
     (made-owners (kind_of directory) place.ino place.line (row_to path place.parent place.ino) t.volume))
 
 pub makes-plan : (directory : Bool) (path : List (List ℕ)) (place : Place) (t old : TablesView) (node : Inode) (r : NameRow) (names : Rows)
     (b : List Record) → t ≡ old → IsWhole t.volume → MakesAt directory path place t node r names
     → (node.root ≡ (inode t.volume place.ino).root → node.extents ≡ (inode t.volume place.ino).extents
     → Turns t.volume.geometry [] t.volume (row_set place.line (Some r) (node_set place.ino node t.volume)) b)
-    → 0 < length b → length b ≤ 2 → IsPlan old (with_lines place.ino node names t) b
-makes-plan directory path place t old node r names b same whole makes turns some most =
+    → 0 < length b → length b ≤ 2 → old.aside ≡ [] → IsPlan old (with_lines place.ino node names t) b
+makes-plan directory path place t old node r names b same whole makes turns some most idle =
     let v = t.volume in
     let free = place-bare v path place whole makes.is_place in
     let root : node.root ≡ (inode v place.ino).root = ap (λ (x : Inode). x.root) makes.node_is ∙ sym free.root in
@@ -128,4 +128,5 @@ makes-plan directory path place t old node r names b same whole makes turns some
     plan-from t old (with_lines place.ino node names t) (made_at directory path place v) b same
     (makes-made directory path place t node r names makes)
     (subst (λ w. Turns v.geometry [] v w b) (λ i. row_set place.line (Some (makes.row_is i)) (node_set place.ino (makes.node_is i) v)) (turns root extents))
-    some (omega arith) (λ ino least few. refl) (made-whole directory path place v whole makes.is_place)
+    some (omega arith) (λ ino least few. refl) (made-whole directory path place v whole makes.is_place) idle refl
+    (made-owners (kind_of directory) place.ino place.line (row_to path place.parent place.ino) v)

@@ -45,20 +45,20 @@ unnames-is : (path : List (List ℕ)) (entry : Entry) (t : TablesView) (names : 
     → with_names names t ≡ with_volume (unnamed entry.line t.volume) t
 unnames-is path entry t names u = ap (λ (rows : Rows). with_names rows t) u.names_is
 
-pub unnames-tables : (path : List (List ℕ)) (entry : Entry) (t : TablesView) (names : Rows) (pool : FreeSet) → AreTables t pool
-    → Unnames path entry t names → AreTables (with_names names t) pool
-unnames-tables path entry t names pool are u =
-    subst (λ n. AreTables n pool) (sym (unnames-is path entry t names u))
-    (tables-same t (unnamed entry.line t.volume) pool are (unnamed-whole path entry t.volume are.whole u.is_file) refl
+pub unnames-tables : (path : List (List ℕ)) (entry : Entry) (t : TablesView) (names : Rows) (pool held : FreeSet) → AreTables t pool held
+    → Unnames path entry t names → AreTables (with_names names t) pool held
+unnames-tables path entry t names pool held are u =
+    subst (λ n. AreTables n pool held) (sym (unnames-is path entry t names u))
+    (tables-same t (unnamed entry.line t.volume) pool held are (unnamed-whole path entry t.volume are.whole u.is_file) refl
     (unnamed-owners entry.line t.volume))
 
 pub unnames-plan : (path : List (List ℕ)) (entry : Entry) (t old : TablesView) (names : Rows) (b : List Record) → t ≡ old
     → IsWhole t.volume → Unnames path entry t names
     → Turns t.volume.geometry [] t.volume (row_set entry.line None t.volume) b → 0 < length b → length b ≤ 1
-    → IsPlan old (with_names names t) b
-unnames-plan path entry t old names b same whole u turns some most =
+    → old.aside ≡ [] → IsPlan old (with_names names t) b
+unnames-plan path entry t old names b same whole u turns some most idle =
     plan-from t old (with_names names t) (unnamed entry.line t.volume) b same (unnames-is path entry t names u) turns some (omega arith)
-    (λ ino least most. refl) (unnamed-whole path entry t.volume whole u.is_file)
+    (λ ino least most. refl) (unnamed-whole path entry t.volume whole u.is_file) idle refl (unnamed-owners entry.line t.volume)
 
 -- ---- a directory with its name
 
@@ -97,23 +97,24 @@ removes-is : (path : List (List ℕ)) (entry : Entry) (t : TablesView) (gone : I
     → with_lines entry.child gone names t ≡ with_volume (removed entry.line entry.child t.volume) t
 removes-is path entry t gone names r = λ i. with_lines entry.child (r.gone_is i) (r.names_is i) t
 
-pub removes-tables : (path : List (List ℕ)) (entry : Entry) (t : TablesView) (gone : Inode) (names : Rows) (pool : FreeSet) → AreTables t pool
-    → Removes path entry t gone names → AreTables (with_lines entry.child gone names t) pool
-removes-tables path entry t gone names pool are r =
-    subst (λ n. AreTables n pool) (sym (removes-is path entry t gone names r))
-    (tables-same t (removed entry.line entry.child t.volume) pool are (removed-whole path entry t.volume are.whole r.is_directory) refl
+pub removes-tables : (path : List (List ℕ)) (entry : Entry) (t : TablesView) (gone : Inode) (names : Rows) (pool held : FreeSet) → AreTables t pool held
+    → Removes path entry t gone names → AreTables (with_lines entry.child gone names t) pool held
+removes-tables path entry t gone names pool held are r =
+    subst (λ n. AreTables n pool held) (sym (removes-is path entry t gone names r))
+    (tables-same t (removed entry.line entry.child t.volume) pool held are (removed-whole path entry t.volume are.whole r.is_directory) refl
     (removed-owners entry.line entry.child t.volume))
 
 pub removes-plan : (path : List (List ℕ)) (entry : Entry) (t old : TablesView) (gone : Inode) (names : Rows) (b : List Record) → t ≡ old
     → IsWhole t.volume → Removes path entry t gone names
     → (gone.root ≡ (inode t.volume entry.child).root → gone.extents ≡ (inode t.volume entry.child).extents
     → Turns t.volume.geometry [] t.volume (row_set entry.line None (node_set entry.child gone t.volume)) b)
-    → 0 < length b → length b ≤ 2 → IsPlan old (with_lines entry.child gone names t) b
-removes-plan path entry t old gone names b same whole r turns some most =
+    → 0 < length b → length b ≤ 2 → old.aside ≡ [] → IsPlan old (with_lines entry.child gone names t) b
+removes-plan path entry t old gone names b same whole r turns some most idle =
     let v = t.volume in
     let none = removed-bare path entry v whole r.is_directory in
     plan-from t old (with_lines entry.child gone names t) (removed entry.line entry.child v) b same
     (removes-is path entry t gone names r)
     (subst (λ (x : Inode). Turns v.geometry [] v (row_set entry.line None (node_set entry.child x v)) b) r.gone_is
     (turns (ap (λ (x : Inode). x.root) r.gone_is ∙ sym none.root) (ap (λ (x : Inode). x.extents) r.gone_is ∙ sym none.extents)))
-    some (omega arith) (λ ino least few. refl) (removed-whole path entry v whole r.is_directory)
+    some (omega arith) (λ ino least few. refl) (removed-whole path entry v whole r.is_directory) idle refl
+    (removed-owners entry.line entry.child v)

@@ -16,9 +16,9 @@ use Rattle.k_plans.specs.Whole.{IsWhole}
 abbrev pub IsWholeWhereRead : Type 0
 IsWholeWhereRead = (g : Geometry) (f : Words) (v : Volume) → IsGeometry g → Reads g f v → AreKept v → IsWhole v
 
--- where nothing waits, all unused blocks are free
+-- where nothing is set aside and nothing waits, all unused blocks are free
 abbrev pub FreeAreUnused : Type 0
-FreeAreUnused = (t : TablesView) → t.waiting ≡ [] → free_blocks t ≡ unused_blocks t.volume
+FreeAreUnused = (t : TablesView) → t.aside ≡ [] → t.waiting ≡ [] → free_blocks t ≡ unused_blocks t.volume
 
 -- the lowest free inode is none of the root's and the staging files', which are never free
 abbrev pub IsBehindStaging : Type 0

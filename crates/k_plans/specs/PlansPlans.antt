@@ -7,6 +7,7 @@ use Rattle.posix_types.specs.declared.item.Outcome.{Outcome}
 use Rattle.posix_types.specs.declared.reply.Errno.{Errno}
 use Rattle.posix_types.specs.declared.reply.Reply.{Reply}
 use Rattle.k_tables.specs.posix_tables.Outcomes.{answer}
+use Rattle.k_plans.specs.Free.{SetsFreedAside}
 use Rattle.k_plans.specs.View.{TablesView}
 use Rattle.k_plans.specs.Whole.{IsWhole}
 use Rattle.k_plans.specs.declared.plans.faults.PlanFault.{PlanFault}
@@ -16,11 +17,12 @@ abbrev pub KeepsStaged : Volume → Volume → Type 0
 KeepsStaged v w = (ino : ℕ) → 1 ≤ ino → ino ≤ 4 → extents w ino ≡ extents v ino
 
 -- The batch is a plan for the change: its lines, one to four, turn the old volume into the new one, which is whole again.
--- No other blocks wait than before, and staging files have the same maps.
+-- The blocks that came free in the change are set aside, no other ones wait than before, and staging files have the same maps.
 pub record IsPlan (old new : TablesView) (b : List Record) : Type 0 where
   pub turns : Turns old.volume.geometry [] old.volume new.volume b
   pub some : 0 < length b
   pub most : length b ≤ 4
+  pub aside : SetsFreedAside old new
   pub waiting : new.waiting ≡ old.waiting
   pub staged : KeepsStaged old.volume new.volume
   pub whole : IsWhole new.volume

@@ -1,5 +1,5 @@
 -- An inode of the tables that goes over to another map: blocks that are set aside for it, and what is planned.
-use Rattle.std.specs.Prelude.{◌≡◌, ◌<◌, ◌≤◌, ℕ, All, true, List, ◌++◌, length}
+use Rattle.std.specs.Prelude.{◌≡◌, ◌<◌, ◌≤◌, ℕ, All, true, List, [], ◌++◌, ◌||◌, length}
 use Rattle.layout_model.specs.block_counts.Counts.{chains_for}
 use Rattle.k_tables.specs.image_model.Placed.{AreDistinct}
 use Rattle.k_tables.specs.image_model.Volume.{Volume}
@@ -9,27 +9,33 @@ use Rattle.k_journal.specs.declared.batches.Record.{Record}
 use Rattle.k_plans.specs.Maps.{AreApart, write_steps}
 use Rattle.k_plans.specs.LandingsPlans.{NewChain, Turns, blocks_of, new_at}
 use Rattle.volume_change_laws.specs.k_split_model.Taken.{AreLowest, switched}
-use Rattle.map_chain.specs.volume_laws.Uses.{in_chain, is_unused}
+use Rattle.k_reading.specs.block_pool.FreeSets.{is_among}
+use Rattle.map_chain.specs.volume_laws.Uses.{is_unused}
 use Rattle.k_plans.specs.Free.{is_free_block}
 use Rattle.k_plans.specs.View.{TablesView}
 use Rattle.k_plans.specs.Whole.{IsWhole}
 
--- the tables with other blocks that wait
+-- the tables with other blocks set aside, or with other ones that wait
+abbrev pub with_aside : List ℕ → TablesView → TablesView
+with_aside aside t = record t { aside = aside }
+
 abbrev pub with_waiting : List ℕ → TablesView → TablesView
 with_waiting waiting t = record t { waiting = waiting }
 
--- The blocks are the n lowest free ones; they wait now, with those that did.
+-- The blocks are the n lowest free ones; they are set aside now, with those that were.
 pub record IsSetAside (n : ℕ) (taken : List ℕ) (old new : TablesView) : Type 0 where
   pub lowest : AreLowest (is_free_block old) n taken
-  pub after : new ≡ with_waiting (old.waiting ++ taken) old
+  pub after : new ≡ with_aside (old.aside ++ taken) old
 
--- each block waits once
-abbrev pub WaitOnce : TablesView → Type 0
-WaitOnce t = (b : ℕ) → in_chain t.waiting b ≤ 1
+-- What was set aside waits now, with the blocks that did.
+pub record IsHeld (old new : TablesView) : Type 0 where
+  pub volume : new.volume ≡ old.volume
+  pub aside : new.aside ≡ []
+  pub waiting : (b : ℕ) → is_among new.waiting b ≡ (is_among old.waiting b || is_among old.aside b)
 
--- the tables with an inode that went over to a map, and other blocks that wait
+-- the tables with an inode that went over to a map, and other blocks set aside
 abbrev pub switched_tables : ℕ → Inode → List ℕ → List Extent → List ℕ → TablesView → TablesView
-switched_tables ino x blocks es waiting t = record { volume = switched ino x blocks es t.volume; waiting = waiting }
+switched_tables ino x blocks es aside t = record t { volume = switched ino x blocks es t.volume; aside = aside }
 
 -- The batch is a plan for a change of maps from v to w: with the new maps in free blocks its lines, one to four, turn v into
 -- w, which is whole again. The new maps may be written one after the other, within the steps of a change.

@@ -6,8 +6,8 @@
 //! - `landings`: Landing a plan: a change of the metadata as one transaction.
 //! - `plans`: The tables of a volume in memory, and the changes of names and nodes planned on them.
 //!
-//! The pool has just the data blocks that nothing in the volume names and that do not wait for a commit, so
-//! no call loses a block.
+//! The pool has just the data blocks that nothing in the volume names, that are not set aside for the change
+//! that is planned, and that do not wait for a commit, so no call loses a block.
 //!
 //! Stands on `pm_lines`, `extent_map`, `image_layout`, `k_inodes`, `k_names`, `map_chain`,
 //! `k_journal`, `layout_model`, `posix_types`, `volume_change_laws`, `k_reading`, `k_tables` and

@@ -153,8 +153,8 @@ module _ (v : Volume) (d e : List Cell) (ino first : ℕ) (bytes : List ℕ) (wh
   }
 
 -- K-Split is ready again
-pub ready-over : (t : TablesView) (d e : List Cell) (batched lost now : Bool) (b : List Record) (ino first : ℕ) (bytes : List ℕ) → IsReady (view_of t d batched lost) b
-    → ino < length t.volume.inodes → Overwrites t.volume t.volume ino first bytes d e → KeepsSingle d e → IsReady (view_of t e batched now) b
+pub ready-over : (t : TablesView) (d e : List Cell) (batched lost now : Bool) (b : List Record) (ino first : ℕ) (bytes : List ℕ) → IsReady (view_of t d batched lost) b t.aside
+    → ino < length t.volume.inodes → Overwrites t.volume t.volume ino first bytes d e → KeepsSingle d e → IsReady (view_of t e batched now) b t.aside
 ready-over t d e batched lost now b ino first bytes ready below over singles = record {
   order = record {
     stands = still_stands t.volume d e ino first bytes ready.order.whole ready.order.stands below over singles;
@@ -165,6 +165,7 @@ ready-over t d e batched lost now b ino first bytes ready below over singles = r
   };
   unbatched = ready.unbatched;
   no_lines = ready.no_lines;
+  none_aside = ready.none_aside;
 }
 
 -- what is asked of the state before, said of its tables
@@ -174,7 +175,7 @@ asked t d batched lost k ino first count same may = subst (λ (x : View). x.lost
 
 -- the answers
 pub overwrite-done : (t : TablesView) (d e : List Cell) (batched lost : Bool) (b : List Record) (k : View) (ino first : ℕ) (bytes : List ℕ) → lost ≡ false → view_of t d batched lost ≡ k
-    → IsReady (view_of t d batched lost) b → ino < length t.volume.inodes → Overwrites t.volume t.volume ino first bytes d e
+    → IsReady (view_of t d batched lost) b t.aside → ino < length t.volume.inodes → Overwrites t.volume t.volume ino first bytes d e
     → Follows (IsOverwrittenWhole (extents t.volume ino) first bytes) d e → KeepsSingle d e → IsOverwriteDone ino first bytes k (view_of t e batched lost)
 overwrite-done t d e batched lost b k ino first bytes is same ready below over whole singles =
     subst (λ x. IsOverwriteDone ino first bytes x (view_of t e batched lost)) same
@@ -197,7 +198,7 @@ short_range es first count canonical some mapped = elim (cases_lt ((first + coun
 
 -- An empty write leaves all as it was.
 pub overwrite-none : (t : TablesView) (d : List Cell) (batched lost : Bool) (b : List Record) (k : View) (ino first : ℕ) (bytes : List ℕ) → lost ≡ false → view_of t d batched lost ≡ k
-    → IsReady (view_of t d batched lost) b → length bytes ≡ 0 → IsOverwriteDone ino first bytes k k
+    → IsReady (view_of t d batched lost) b t.aside → length bytes ≡ 0 → IsOverwriteDone ino first bytes k k
 overwrite-none t d batched lost b k ino first bytes is same ready empty =
     subst (λ x. IsOverwriteDone ino first bytes x x) same
     (record {

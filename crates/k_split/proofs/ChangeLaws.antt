@@ -25,6 +25,7 @@ use Rattle.k_split.specs.Answers.{IsAnswer, IsCommitAnswer, IsPaid}
 use Rattle.k_split.specs.Landed.{IsLanded, IsLandedDone, IsLandedLost, IsPlanned}
 use Rattle.k_split.specs.Order.{IsReady, IsUnstagedSingle, view_of}
 use Rattle.k_split.proofs.LandLaws.{same_geometry}
+use Rattle.k_split.proofs.Released.{IsReleased}
 
 -- a K-Split that is handed power is not lost
 not_lost : (lost on : Bool) → (lost ≡ true → on ≡ false) → on ≡ true → lost ≡ false
@@ -47,12 +48,12 @@ unstaged-kept v w d e geometry staged singles single i in_data free =
 -- ---- a plan, from the tables t to the tables u
 
 module _ (t u : TablesView) (d : List Cell) (batched lost : Bool) (c b : List Record) (is : lost ≡ false)
-    (ready : lost ≡ false → IsReady (view_of t d batched lost) c) (plan : IsPlan t u b) where
+    (ready : lost ≡ false → IsReady (view_of t d batched lost) c t.aside) (plan : IsReleased t u b) where
   pub planned : IsPlanned t.volume u.volume b d
   planned = record { stands = (ready is).order.stands; turns = plan.turns; most = plan.most }
 
   pub ready-done : (e : List Cell) (p q : Supply) (now : Bool) (a : List Record) → IsLandedDone t.volume u.volume b d e p q → a ≡ []
-      → IsReady (view_of u e batched now) a
+      → IsReady (view_of u e batched now) a u.aside
   ready-done e p q now a landed none = record {
     order = record {
       stands = landed.stands;
@@ -63,6 +64,7 @@ module _ (t u : TablesView) (d : List Cell) (batched lost : Bool) (c b : List Re
     };
     unbatched = (ready is).unbatched;
     no_lines = none;
+    none_aside = plan.none_aside;
   }
 
   pub answer-done : {T : Type 0} (made : T) (row : View → Option Outcome) (Makes : View → T → Volume → Type 0) (k : View) (e : List Cell) (p q : Supply)
@@ -92,7 +94,7 @@ module _ (t u : TablesView) (d : List Cell) (batched lost : Bool) (c b : List Re
 
   -- landed or cut off
   pub ready-landed : (e : List Cell) (p q : Supply) (now : Bool) (a : List Record) (r : Result (Unit {0}) KFault) → IsLanded t.volume u.volume b d e p q r
-      → OnOk r (a ≡ []) → OnErr r (now ≡ true) → now ≡ false → IsReady (view_of u e batched now) a
+      → OnOk r (a ≡ []) → OnErr r (now ≡ true) → now ≡ false → IsReady (view_of u e batched now) a u.aside
   ready-landed e p q now a (Ok done) landed none goes off = ready-done e p q now a landed none
   ready-landed e p q now a (Err fault) landed none goes off = let never : true ≡ false = sym goes ∙ off in absurd (cc)
 
@@ -140,7 +142,7 @@ not_idle : (o : Option Outcome) (x : Outcome) → o ≡ None → o ≡ Some x �
 not_idle o x none some = cc
 
 pub paid-done : {T : Type 0} (made : T) (row : View → Option Outcome) (t u : TablesView) (b : List Record) (d e : List Cell) (batched lost : Bool)
-    (k : View) (p q : Supply) → view_of t d batched lost ≡ k → row (view_of t d batched lost) ≡ None → IsPlan t u b
+    (k : View) (p q : Supply) → view_of t d batched lost ≡ k → row (view_of t d batched lost) ≡ None → IsReleased t u b
     → IsLandedDone t.volume u.volume b d e p q → IsPaid (row k) p q (Ok made)
 paid-done made row t u b d e batched lost k p q same allowed plan landed = (
   landed.on,
@@ -149,7 +151,7 @@ paid-done made row t u b d e batched lost k p q same allowed plan landed = (
 )
 
 pub paid-landed : (row : View → Option Outcome) (t u : TablesView) (b : List Record) (d e : List Cell) (batched lost : Bool)
-    (k : View) (p q : Supply) (r : Result (Unit {0}) KFault) → view_of t d batched lost ≡ k → row (view_of t d batched lost) ≡ None → IsPlan t u b
+    (k : View) (p q : Supply) (r : Result (Unit {0}) KFault) → view_of t d batched lost ≡ k → row (view_of t d batched lost) ≡ None → IsReleased t u b
     → IsLanded t.volume u.volume b d e p q r → IsPaid (row k) p q r
 paid-landed row t u b d e batched lost k p q (Ok done) same allowed plan landed = paid-done done row t u b d e batched lost k p q same allowed plan landed
 paid-landed row t u b d e batched lost k p q (Err fault) same allowed plan landed = paid-cut (Unit {0}) (row k) t.volume u.volume b d e p q fault landed
@@ -167,7 +169,7 @@ to-do p q t u b lost (inl idle) some =
 -- ---- a commit, while nothing gathers
 
 module _ (t : TablesView) (d : List Cell) (batched lost : Bool) (c : List Record) (is : lost ≡ false)
-    (ready : lost ≡ false → IsReady (view_of t d batched lost) c) where
+    (ready : lost ≡ false → IsReady (view_of t d batched lost) c t.aside) where
   pub planned-none : IsPlanned t.volume t.volume c d
   planned-none = record {
     stands = (ready is).order.stands;
@@ -176,7 +178,7 @@ module _ (t : TablesView) (d : List Cell) (batched lost : Bool) (c : List Record
   }
 
   pub ready-committed : (e : List Cell) (p q : Supply) (now : Bool) (a : List Record) → IsLandedDone t.volume t.volume c d e p q → a ≡ []
-      → IsReady (view_of t e batched now) a
+      → IsReady (view_of t e batched now) a t.aside
   ready-committed e p q now a landed none = record {
     order = record {
       stands = landed.stands;
@@ -187,6 +189,7 @@ module _ (t : TablesView) (d : List Cell) (batched lost : Bool) (c : List Record
     };
     unbatched = (ready is).unbatched;
     no_lines = none;
+    none_aside = (ready is).none_aside;
   }
 
   pub answer-committed : (k : View) (e : List Cell) (p q : Supply) (now : Bool) → now ≡ lost → view_of t d batched lost ≡ k
@@ -204,7 +207,7 @@ module _ (t : TablesView) (d : List Cell) (batched lost : Bool) (c : List Record
       )
 
   pub ready-recommitted : (e : List Cell) (p q : Supply) (now : Bool) (a : List Record) (r : Result (Unit {0}) KFault) → IsLanded t.volume t.volume c d e p q r
-      → OnOk r (a ≡ []) → OnErr r (now ≡ true) → now ≡ false → IsReady (view_of t e batched now) a
+      → OnOk r (a ≡ []) → OnErr r (now ≡ true) → now ≡ false → IsReady (view_of t e batched now) a t.aside
   ready-recommitted e p q now a (Ok done) landed none goes off = ready-committed e p q now a landed none
   ready-recommitted e p q now a (Err fault) landed none goes off = let never : true ≡ false = sym goes ∙ off in absurd (cc)
 

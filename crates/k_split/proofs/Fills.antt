@@ -13,15 +13,16 @@ use Rattle.block_io.specs.image_model.Placed.{AreDistinct, block_at}
 use Rattle.block_io.specs.image_model.Volume.{chain, extents, inode}
 use Rattle.k_tables.specs.volume_laws.Changes.{chain-set_same, extents-set_same}
 use Rattle.block_io.specs.k_split_model.Taken.{AreLowest, with_map}
-use Rattle.block_io.specs.k_split_model.MapChangesChanges.{holes}
+use Rattle.block_io.specs.k_split_model.MapChangesChanges.{holes, IsFilled}
 use Rattle.k_map_plans.specs.volume_change_laws.Switches.{unused-data}
 use Rattle.k_map_plans.specs.volume_laws.Uses.{is_unused}
 use Rattle.k_map_plans.specs.k_journal.declared.batches.Record.{Record}
 use Rattle.k_map_plans.specs.k_plans.Maps.{AreApart}
 use Rattle.k_map_plans.specs.k_plans.LandingsPlans.{NewChain, blocks_of}
 use Rattle.k_map_plans.specs.k_plans.WrittenLaws.{blocks_of-one}
-use Rattle.k_map_plans.specs.Plans.{IsFillPlan, IsLiveFile}
+use Rattle.k_map_plans.specs.Plans.{IsLiveFile}
 use Rattle.k_map_plans.specs.k_plans.Free.{is_free_block}
+use Rattle.k_map_plans.specs.k_plans.Switching.{with_aside}
 use Rattle.k_map_plans.specs.k_plans.View.{TablesView}
 use Rattle.k_tables.specs.k_split_model.View.{View}
 use Rattle.posix_types.specs.declared.item.Outcome.{Outcome}
@@ -32,6 +33,7 @@ use Rattle.k_split.specs.MapChanges.{IsMapAnswer}
 use Rattle.k_split.specs.Order.{IsReady, IsUnstagedSingle, view_of}
 use Rattle.k_split.proofs.ChangeLaws.{unstaged-kept}
 use Rattle.k_split.proofs.MapAnswers.{file-staged, map-answer, map-paid, map-planned, map-ready, unused-unstaged}
+use Rattle.k_split.proofs.Released.{IsReleasedOne}
 
 -- ---- two lists of the lowest free blocks, one after the other
 
@@ -71,19 +73,19 @@ module _ (t : TablesView) (n : ℕ) (fresh blocks : List ℕ) (lowest : AreLowes
 -- ---- the plan
 
 module _ (t u : TablesView) (d : List Cell) (batched lost : Bool) (c b : List Record) (map : NewChain) (fresh : List ℕ) (ino from count : ℕ)
-    (is : lost ≡ false) (ready : lost ≡ false → IsReady (view_of t d batched lost) c) (file : IsLiveFile ino t.volume)
-    (planned : IsFillPlan ino from count t u b fresh map) where
+    (is : lost ≡ false) (ready : lost ≡ false → IsReady (view_of t d batched lost) c t.aside) (file : IsLiveFile ino t.volume)
+    (filled : IsFilled (is_free_block (with_aside [] t)) ino from count t.volume u.volume fresh) (one : IsReleasedOne ino t u b map) where
   -- the file has the blocks then, and had none there
-  chain-is : map.blocks ≡ planned.filled.blocks
+  chain-is : map.blocks ≡ filled.blocks
   chain-is =
-      planned.one.chain_is ∙ ap (λ y. chain y ino) planned.filled.is_filled
-      ∙ chain-set_same ino (with_map planned.filled.blocks planned.filled.es (inode t.volume ino)) planned.filled.blocks planned.filled.es t.volume
+      one.chain_is ∙ ap (λ y. chain y ino) filled.is_filled
+      ∙ chain-set_same ino (with_map filled.blocks filled.es (inode t.volume ino)) filled.blocks filled.es t.volume
       (omega (arith, file.below, (ready is).order.whole.maps.chain_count))
 
-  map-is : extents u.volume ino ≡ planned.filled.es
+  map-is : extents u.volume ino ≡ filled.es
   map-is =
-      ap (λ y. extents y ino) planned.filled.is_filled
-      ∙ extents-set_same ino (with_map planned.filled.blocks planned.filled.es (inode t.volume ino)) planned.filled.blocks planned.filled.es t.volume
+      ap (λ y. extents y ino) filled.is_filled
+      ∙ extents-set_same ino (with_map filled.blocks filled.es (inode t.volume ino)) filled.blocks filled.es t.volume
       (omega (arith, file.below, (ready is).order.whole.maps.map_count))
 
   hole : ℕ
@@ -92,7 +94,7 @@ module _ (t u : TablesView) (d : List Cell) (batched lost : Bool) (c b : List Re
   was-hole : disk_at (extents t.volume ino) (slice_index (holes (extents t.volume ino) from count) 0) ≡ None
   was-hole =
       none (disk_at (extents t.volume ino) (slice_index (holes (extents t.volume ino) from count) 0))
-      (filter_passes (λ k. is_none (disk_at (extents t.volume ino) k)) (range_with_len from count) 0 0 (omega (arith, planned.filled.some, planned.filled.fills.each)))
+      (filter_passes (λ k. is_none (disk_at (extents t.volume ino) k)) (range_with_len from count) 0 0 (omega (arith, filled.some, filled.fills.each)))
     where
       none : (o : Option ℕ) → is_none o ≡ true → o ≡ None
       none None test = refl
@@ -101,7 +103,7 @@ module _ (t u : TablesView) (d : List Cell) (batched lost : Bool) (c b : List Re
   is-changed : u.volume ≢ t.volume
   is-changed same =
       let never : Some (block_at fresh 0) ≡ None =
-      sym (planned.filled.fills.filled 0 planned.filled.some)
+      sym (filled.fills.filled 0 filled.some)
       ∙ ap (λ es. disk_at es (slice_index (holes (extents t.volume ino) from count) 0)) (sym map-is ∙ ap (λ y. extents y ino) same)
       ∙ was-hole
       in
@@ -109,32 +111,32 @@ module _ (t u : TablesView) (d : List Cell) (batched lost : Bool) (c b : List Re
 
   pub fill-planned : IsFillPlanned fresh (map ∷ []) t.volume u.volume b d
   fill-planned = record {
-    planned = map-planned t u d batched lost c b (map ∷ []) is ready planned.one.plan;
+    planned = map-planned t u d batched lost c b (map ∷ []) is ready one.plan;
     changed = is-changed;
-    unused = all-unused t _ fresh planned.filled.blocks planned.filled.taken;
-    distinct = all-distinct t _ fresh planned.filled.blocks planned.filled.taken;
-    apart = subst (AreApart fresh) (sym (blocks_of-one map ∙ chain-is)) (all-apart t _ fresh planned.filled.blocks planned.filled.taken);
+    unused = all-unused (with_aside [] t) _ fresh filled.blocks filled.taken;
+    distinct = all-distinct (with_aside [] t) _ fresh filled.blocks filled.taken;
+    apart = subst (AreApart fresh) (sym (blocks_of-one map ∙ chain-is)) (all-apart (with_aside [] t) _ fresh filled.blocks filled.taken);
     single = λ k i below at.
         let unused : is_unused t.volume (i / 512) ≡ true =
-        subst (λ n. is_unused t.volume n ≡ true) (sym at) (all-unused t _ fresh planned.filled.blocks planned.filled.taken k 0 below)
+        subst (λ n. is_unused t.volume n ≡ true) (sym at) (all-unused (with_aside [] t) _ fresh filled.blocks filled.taken k 0 below)
         in
         (ready is).order.unstaged i (unused-data t.volume (i / 512) unused)
-        (unused-unstaged t u d batched lost c b (map ∷ []) is ready planned.one.plan (i / 512) unused);
+        (unused-unstaged t u d batched lost c b (map ∷ []) is ready one.plan (i / 512) unused);
   }
 
   keeps : (e : List Cell) → KeepsSingle d e → IsUnstagedSingle u.volume e
   keeps e singles =
-      unstaged-kept t.volume u.volume d e planned.one.plan.geometry
-      (file-staged t.volume u.volume ino (inode t.volume ino) planned.filled.blocks planned.filled.es (ready is).order.whole file planned.filled.is_filled)
+      unstaged-kept t.volume u.volume d e one.plan.geometry
+      (file-staged t.volume u.volume ino (inode t.volume ino) filled.blocks filled.es (ready is).order.whole file filled.is_filled)
       singles (ready is).order.unstaged
 
   -- ---- it is landed
 
   pub fill-ready : (e : List Cell) (p q : Supply) (now : Bool) (a : List Record) (r : Result (Unit {0}) KFault)
       → IsFillLanded fresh (map ∷ []) t.volume u.volume d e p q r → OnOk r (a ≡ []) → OnErr r (now ≡ true) → now ≡ false
-      → IsReady (view_of u e batched now) a
+      → IsReady (view_of u e batched now) a u.aside
   fill-ready e p q now a r landed none goes off =
-      map-ready t u d batched lost c b (map ∷ []) is ready planned.one.plan planned.one.waiting keeps (fresh ++ blocks_of (map ∷ []))
+      map-ready t u d batched lost c b (map ∷ []) is ready one.plan one.waiting one.none_aside keeps (fresh ++ blocks_of (map ∷ []))
       e p q now a r landed.landed none goes off
 
   pub fill-answer : (k : View) (e : List Cell) (p q : Supply) (now : Bool) (r : Result (Unit {0}) KFault) → OnOk r (now ≡ lost)
@@ -142,12 +144,12 @@ module _ (t u : TablesView) (d : List Cell) (batched lost : Bool) (c b : List Re
       → IsFillLanded fresh (map ∷ []) t.volume u.volume d e p q r → IsFillAnswer ino from count k (view_of u e batched now) r
   fill-answer k e p q now r stays goes same row landed =
       with-row r
-      (map-answer t u d batched lost c b (map ∷ []) is ready planned.one.plan planned.one.waiting keeps (fresh ++ blocks_of (map ∷ []))
+      (map-answer t u d batched lost c b (map ∷ []) is ready one.plan one.waiting one.none_aside keeps (fresh ++ blocks_of (map ∷ []))
       (λ x w blocks. IsFilledWith ino from count x e w blocks) k e p q now r stays goes same
       (record {
         fresh = fresh;
-        filled = planned.filled;
-        written = ap (λ bs. fresh ++ bs) (blocks_of-one map ∙ planned.one.chain_is);
+        filled = filled;
+        written = ap (λ bs. fresh ++ bs) (blocks_of-one map ∙ one.chain_is);
         zeros = landed.zeros;
       })
       landed.landed)

@@ -12,6 +12,7 @@ mod LookLaws
 mod MapAnswers
 mod MapLands
 mod OpenLaws
+mod Released
 mod Relinks
 mod ResetLaws
 mod StagedBytes

@@ -87,8 +87,8 @@ module _ (v : Volume) (d e part : List Cell) (staging block b : ℕ) (whole : Is
       ap is_single (out.others i (λ same. both_ways (covers (extents v staging) (i / 512)) (free staging may.least may.most) (ap (covers (extents v staging)) same ∙ has)))
       ∙ single i in_it free
 
-pub ready_lent : (t : TablesView) (d e part : List Cell) (batched lost now : Bool) (c : List Record) (staging block b : ℕ) → IsReady (view_of t d batched lost) c
-    → MayLend t.volume d staging block b → GoesOut 512 b d e part → length e ≡ length d → IsReady (view_of t e batched now) c
+pub ready_lent : (t : TablesView) (d e part : List Cell) (batched lost now : Bool) (c : List Record) (staging block b : ℕ) → IsReady (view_of t d batched lost) c t.aside
+    → MayLend t.volume d staging block b → GoesOut 512 b d e part → length e ≡ length d → IsReady (view_of t e batched now) c t.aside
 ready_lent t d e part batched lost now c staging block b ready may out size = record {
   order = record {
     stands = stands_lent t.volume d e part staging block b ready.order.whole ready.order.stands may out size;
@@ -99,12 +99,13 @@ ready_lent t d e part batched lost now c staging block b ready may out size = re
   };
   unbatched = ready.unbatched;
   no_lines = ready.no_lines;
+  none_aside = ready.none_aside;
 }
 
 -- ---- a block comes back
 
-pub ready_back : (t : TablesView) (d e part : List Cell) (batched lost now : Bool) (c : List Record) (n : ℕ) → IsReady (view_of t d batched lost) c
-    → ((i : ℕ) → i / 512 ≡ n → is_lent (cell d i) ≡ true) → ComesBack 512 n part d e → length e ≡ length d → IsReady (view_of t e batched now) c
+pub ready_back : (t : TablesView) (d e part : List Cell) (batched lost now : Bool) (c : List Record) (n : ℕ) → IsReady (view_of t d batched lost) c t.aside
+    → ((i : ℕ) → i / 512 ≡ n → is_lent (cell d i) ≡ true) → ComesBack 512 n part d e → length e ≡ length d → IsReady (view_of t e batched now) c t.aside
 ready_back t d e part batched lost now c n ready lent back size = record {
   order = record {
     stands = record {
@@ -121,6 +122,7 @@ ready_back t d e part batched lost now c n ready lent back size = record {
   };
   unbatched = ready.unbatched;
   no_lines = ready.no_lines;
+  none_aside = ready.none_aside;
 } where
   -- a word of one candidate was not out
   same : (i : ℕ) → is_single (cell d i) ≡ true → cell e i ≡ cell d i
@@ -131,10 +133,10 @@ ready_back t d e part batched lost now c n ready lent back size = record {
 
 -- whatever the answer is
 pub ready_asked : {T E : Type 0} (cells_of : T → List Cell) (t : TablesView) (d e : List Cell) (batched lost : Bool) (c : List Record) (staging block b : ℕ) (r : Result T E)
-    → IsReady (view_of t d batched lost) c → MayLend t.volume d staging block b → IfOk r (λ x. GoesOut 512 b d e (cells_of x)) → OnErr r (e ≡ d) → length e ≡ length d
-    → IsReady (view_of t e batched lost) c
+    → IsReady (view_of t d batched lost) c t.aside → MayLend t.volume d staging block b → IfOk r (λ x. GoesOut 512 b d e (cells_of x)) → OnErr r (e ≡ d) → length e ≡ length d
+    → IsReady (view_of t e batched lost) c t.aside
 ready_asked cells_of t d e batched lost c staging block b (Ok x) ready may out same size = ready_lent t d e (cells_of x) batched lost lost c staging block b ready may out size
-ready_asked cells_of t d e batched lost c staging block b (Err y) ready may out same size = subst (λ (cells : List Cell). IsReady (view_of t cells batched lost) c) (sym same) ready
+ready_asked cells_of t d e batched lost c staging block b (Err y) ready may out same size = subst (λ (cells : List Cell). IsReady (view_of t cells batched lost) c t.aside) (sym same) ready
 
 -- the block that is found is the one that was asked for
 pub same_disk : (v : Volume) (d : List Cell) (staging block b : ℕ) (es : List Extent) (disk : ℕ) → MayLend v d staging block b → es ≡ extents v staging → disk_at es block ≡ Some disk → b ≡ disk

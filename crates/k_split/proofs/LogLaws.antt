@@ -70,8 +70,8 @@ cleared v d e first count from many size lent zeroed singles =
     record { loses = record { size = size; lent = lent; each_image = z.0; others = z.1; words = z.3 }; zero = z.2; singles = singles }
 
 -- K-Split is ready again.
-pub ready_cleared : (t : TablesView) (d e : List Cell) (batched lost now : Bool) (b : List Record) → IsReady (view_of t d batched lost) b
-    → ClearsLog t.volume d e → IsReady (view_of t e batched now) b
+pub ready_cleared : (t : TablesView) (d e : List Cell) (batched lost now : Bool) (b : List Record) → IsReady (view_of t d batched lost) b t.aside
+    → ClearsLog t.volume d e → IsReady (view_of t e batched now) b t.aside
 ready_cleared t d e batched lost now b ready clear = record {
   order = record {
     stands = stands_cleared t.volume d e ready.order.stands clear;
@@ -82,4 +82,5 @@ ready_cleared t d e batched lost now b ready clear = record {
   };
   unbatched = ready.unbatched;
   no_lines = ready.no_lines;
+  none_aside = ready.none_aside;
 }

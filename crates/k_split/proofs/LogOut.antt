@@ -70,8 +70,8 @@ module _ (v : Volume) (d e : List Cell) (whole : IsWhole v) (stands : Stands v.g
   }
 
 -- K-Split stays ready where words of the log alone change, and each image comes from one before.
-pub ready_beside : (t : TablesView) (d e : List Cell) (batched lost now : Bool) (b : List Record) → IsReady (view_of t d batched lost) b → length e ≡ length d
-    → SameBesideLog t.volume d e → ComesBesideLog t.volume d e → IsReady (view_of t e batched now) b
+pub ready_beside : (t : TablesView) (d e : List Cell) (batched lost now : Bool) (b : List Record) → IsReady (view_of t d batched lost) b t.aside → length e ≡ length d
+    → SameBesideLog t.volume d e → ComesBesideLog t.volume d e → IsReady (view_of t e batched now) b t.aside
 ready_beside t d e batched lost now b ready size same comes = record {
   order = record {
     stands = stands_beside t.volume d e ready.order.whole ready.order.stands size same comes;
@@ -83,6 +83,7 @@ ready_beside t d e batched lost now b ready size same comes = record {
   };
   unbatched = ready.unbatched;
   no_lines = ready.no_lines;
+  none_aside = ready.none_aside;
 }
 
 -- ---- the lines go out

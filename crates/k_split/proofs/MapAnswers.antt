@@ -81,7 +81,7 @@ given-chain v w staging whole is given =
     ∙ chain-set_same staging (with_map [] [] (inode v staging)) [] [] v (omega (arith, is.below, whole.maps.chain_count))
 
 module _ (t u : TablesView) (d : List Cell) (batched lost : Bool) (c b : List Record) (news : List NewChain) (is : lost ≡ false)
-    (ready : lost ≡ false → IsReady (view_of t d batched lost) c) (plan : IsMapPlan news t.volume u.volume b) where
+    (ready : lost ≡ false → IsReady (view_of t d batched lost) c t.aside) (plan : IsMapPlan news t.volume u.volume b) where
   -- a block that nothing names is in no staging file
   pub unused-unstaged : (k : ℕ) → is_unused t.volume k ≡ true → IsUnstaged t.volume k
   unused-unstaged k unused ino least most =
@@ -100,9 +100,9 @@ module _ (t u : TablesView) (d : List Cell) (batched lost : Bool) (c b : List Re
         (ready is).order.unstaged i (unused-data t.volume (i / 512) unused) (unused-unstaged (i / 512) unused);
   }
 
-  module _ (waits : u.waiting ≡ t.waiting) (keeps : (e : List Cell) → KeepsSingle d e → IsUnstagedSingle u.volume e) (blocks : List ℕ) where
+  module _ (waits : u.waiting ≡ t.waiting) (bare : u.aside ≡ []) (keeps : (e : List Cell) → KeepsSingle d e → IsUnstagedSingle u.volume e) (blocks : List ℕ) where
     map-done : (e : List Cell) (p q : Supply) (now : Bool) (a : List Record) → IsMapLandedDone blocks t.volume u.volume d e p q → a ≡ []
-        → IsReady (view_of u e batched now) a
+        → IsReady (view_of u e batched now) a u.aside
     map-done e p q now a landed none = record {
       order = record {
         stands = landed.stands;
@@ -113,11 +113,12 @@ module _ (t u : TablesView) (d : List Cell) (batched lost : Bool) (c b : List Re
       };
       unbatched = (ready is).unbatched;
       no_lines = none;
+      none_aside = bare;
     }
 
     pub map-ready : (e : List Cell) (p q : Supply) (now : Bool) (a : List Record) (r : Result (Unit {0}) KFault)
         → IsMapLanded blocks t.volume u.volume d e p q r → OnOk r (a ≡ []) → OnErr r (now ≡ true) → now ≡ false
-        → IsReady (view_of u e batched now) a
+        → IsReady (view_of u e batched now) a u.aside
     map-ready e p q now a (Ok done) landed none goes off = map-done e p q now a landed none
     map-ready e p q now a (Err fault) landed none goes off = let never : true ≡ false = sym goes ∙ off in absurd (cc)
 

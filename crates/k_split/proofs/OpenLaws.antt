@@ -104,9 +104,9 @@ module _ (g : Geometry) (d : List Cell) (is : IsGeometry g) (open_is : IsOpenabl
     reads = λ image is_image. subst (λ h. Reads g (journaled h) v) (sym (image-single d image open_is.single is_image)) through;
   }
 
-  pub ready : (t : TablesView) → t.volume ≡ volume g (words_of d) → t.waiting ≡ [] → IsReady (view_of t d false false) []
+  pub ready : (t : TablesView) → t.volume ≡ volume g (words_of d) → t.waiting ≡ [] → t.aside ≡ [] → IsReady (view_of t d false false) [] t.aside
   unfolding f v
-  ready t volume_is none_waits =
+  ready t volume_is none_waits none_aside =
       let same : t.volume ≡ v = volume_is ∙ same_volume in
       let geometry_is : g ≡ t.volume.geometry = sym (ap (λ (w : Volume). w.geometry) same ∙ through.geometry) in
       record {
@@ -119,30 +119,32 @@ module _ (g : Geometry) (d : List Cell) (is : IsGeometry g) (open_is : IsOpenabl
         };
         unbatched = refl;
         no_lines = refl;
+        none_aside = none_aside;
       }
 
 -- the tables that were read are those of the volume
 pub tables-read : (g : Geometry) (d : List Cell) (base : ℕ) (inodes : List Inode) (rows : Rows) (chains : List (List ℕ)) (maps : List (List Extent))
     → IsGeometry g → IsOpenable g d → base ≡ words_of d base_word → inodes ≡ (volume g (words_of d)).inodes → rows ≡ (volume g (words_of d)).names
     → ((h : Geometry) (w : Volume) → length d ≡ 512 * h.blocks → Reads h (words_of d) w → w.inodes ≡ inodes → (chains ≡ w.chains) × (maps ≡ w.maps))
-    → tables_view g base inodes rows chains maps [] ≡ record { volume = volume g (words_of d); waiting = [] }
+    → tables_view g base inodes rows chains maps [] [] ≡ record { volume = volume g (words_of d); aside = []; waiting = [] }
 unfolding volume
 tables-read g d base inodes rows chains maps is open_is base_is inodes_are rows_are read =
     let both = read g (volume g (words_of d)) open_is.size (reads-words g d is open_is) (sym inodes_are) in
     λ i. record {
       volume = record { geometry = g; base = base_is i; inodes = inodes_are i; names = rows_are i; chains = both.0 i; maps = both.1 i };
+      aside = [];
       waiting = [];
     }
 
 pub tables-whole : (g : Geometry) (d : List Cell) (t : TablesView) → IsGeometry g → IsOpenable g d
-    → t ≡ record { volume = volume g (words_of d); waiting = [] } → IsWhole t.volume
+    → t ≡ record { volume = volume g (words_of d); aside = []; waiting = [] } → IsWhole t.volume
 tables-whole g d t is open_is same = subst (λ (u : TablesView). IsWhole u.volume) (sym same) (whole g d is open_is)
 
 opened : (g : Geometry) (d : List Cell) (t : TablesView) → IsGeometry g → IsOpenable g d
-    → t ≡ record { volume = volume g (words_of d); waiting = [] } → IsReady (view_of t d false false) [] × IsOpened d (volume g (journaled (words_of d))) false (view_of t d false false)
+    → t ≡ record { volume = volume g (words_of d); aside = []; waiting = [] } → IsReady (view_of t d false false) [] t.aside × IsOpened d (volume g (journaled (words_of d))) false (view_of t d false false)
 opened g d t is open_is same =
     let volume_is : t.volume ≡ volume g (words_of d) = ap (λ (u : TablesView). u.volume) same in
-    let are = ready g d is open_is t volume_is (ap (λ (u : TablesView). u.waiting) same) in
+    let are = ready g d is open_is t volume_is (ap (λ (u : TablesView). u.waiting) same) (ap (λ (u : TablesView). u.aside) same) in
     (are, record { order = are.order; volume_is = volume_is ∙ same_volume g d is open_is; cells_are = refl; batched_is = refl; on = refl })
 
 -- ---- the fresh image
@@ -165,17 +167,17 @@ pub openable : (g : Geometry) (d : List Cell) → length d ≡ 512 * g.blocks �
 openable g d size single idle numbers checked = record { size = size; single = single; idle = idle; numbers = numbers; checked = checked }
 
 pub if-tables : (g : Geometry) (d : List Cell) (t : TablesView) (r : Result TablesView AllocError) → IfOk r (λ x. x ≡ t)
-    → t ≡ record { volume = volume g (words_of d); waiting = [] } → IfOk r (λ x. x ≡ record { volume = volume g (words_of d); waiting = [] })
+    → t ≡ record { volume = volume g (words_of d); aside = []; waiting = [] } → IfOk r (λ x. x ≡ record { volume = volume g (words_of d); aside = []; waiting = [] })
 if-tables g d t (Ok x) is same = is ∙ same
 if-tables g d t (Err e) is same = tt
 
 pub opened-ready : (g : Geometry) (d : List Cell) (t : TablesView) (batched : Bool) (b : List Record) → IsGeometry g → IsOpenable g d
-    → t ≡ record { volume = volume g (words_of d); waiting = [] } → batched ≡ false → b ≡ [] → IsReady (view_of t d batched false) b
+    → t ≡ record { volume = volume g (words_of d); aside = []; waiting = [] } → batched ≡ false → b ≡ [] → IsReady (view_of t d batched false) b t.aside
 opened-ready g d t batched b is open_is same unbatched none =
-    subst (λ x. IsReady (view_of t d x false) b) (sym unbatched) (subst (IsReady (view_of t d false false)) (sym none) (opened g d t is open_is same).0)
+    subst (λ x. IsReady (view_of t d x false) b t.aside) (sym unbatched) (subst (λ (a : List Record). IsReady (view_of t d false false) a t.aside) (sym none) (opened g d t is open_is same).0)
 
 pub opened-as : (g : Geometry) (d : List Cell) (t : TablesView) (batched : Bool) → IsGeometry g → IsOpenable g d
-    → t ≡ record { volume = volume g (words_of d); waiting = [] } → batched ≡ false
+    → t ≡ record { volume = volume g (words_of d); aside = []; waiting = [] } → batched ≡ false
     → IsOpened d (volume g (journaled (words_of d))) batched (view_of t d batched false)
 opened-as g d t batched is open_is same unbatched =
     subst (λ x. IsOpened d (volume g (journaled (words_of d))) x (view_of t d x false)) (sym unbatched) (opened g d t is open_is same).1

@@ -42,9 +42,9 @@ tree-content k (Ok tree) unbatched order none is =
 -- ---- by the parts of a K-Split
 
 module _ (t : TablesView) (d : List Cell) (batched lost : Bool) (b : List Record) (k : View) (same : view_of t d batched lost ≡ k) (on : k.lost ≡ false)
-    (ready : lost ≡ false → IsReady (view_of t d batched lost) b) (inodes : List Inode) (rows : Rows) (maps : List (List Extent))
+    (ready : lost ≡ false → IsReady (view_of t d batched lost) b t.aside) (inodes : List Inode) (rows : Rows) (maps : List (List Extent))
     (inodes_are : inodes ≡ t.volume.inodes) (rows_are : rows ≡ t.volume.names) (maps_are : maps ≡ t.volume.maps) where
-  are : IsReady (view_of t d batched lost) b
+  are : IsReady (view_of t d batched lost) b t.aside
   are = ready (subst (λ (x : View). x.lost ≡ false) (sym same) on)
 
   pub parts-tree : AllHome k.cells → HasTree inodes rows maps d
@@ -65,5 +65,5 @@ module _ (t : TablesView) (d : List Cell) (batched lost : Bool) (b : List Record
       → IfOk r (λ tree. (v : Volume) → HasTables inodes rows maps v → IsTreeOf (tree_content (found v [] (words_of d))) tree)
       → IfOk r (IsTreeOf (tree_content (content k.volume.geometry (words_of k.cells))))
   parts-content r none is =
-      let now : IsReady k b = subst (λ x. IsReady x b) same are in
+      let now : IsReady k b t.aside = subst (λ x. IsReady x b t.aside) same are in
       tree-content k r now.unbatched now.order none (parts-listed r is)

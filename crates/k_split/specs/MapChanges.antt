@@ -32,7 +32,7 @@ abbrev pub is_free_in : View → ℕ → Bool
 is_free_in k b = is_unused k.volume b && not (is_among k.waiting b)
 
 abbrev pub free_blocks_in : View → ℕ
-free_blocks_in k = free_blocks (record { volume = k.volume; waiting = k.waiting })
+free_blocks_in k = free_blocks (record { volume = k.volume; aside = []; waiting = k.waiting })
 
 -- What a change from v to w that writes blocks makes of the device, done or cut off: the same words are lent; each image reads
 -- as v or as w and else is an image before, but for words of the blocks; and words outside the journal, the journaled lines

@@ -36,11 +36,12 @@ pub record IsInOrder (k : View) : Type 0 where
   pub none_waits : k.batched ≡ false → k.waiting ≡ []
   pub unstaged : IsUnstagedSingle k.volume k.cells
 
--- so it is between changes, which do not gather yet: no line is planned
-pub record IsReady (k : View) (b : List Record) : Type 0 where
+-- so it is between changes, which do not gather yet: no line is planned, and no block is set aside
+pub record IsReady (k : View) (b : List Record) (aside : List ℕ) : Type 0 where
   pub order : IsInOrder k
   pub unbatched : k.batched ≡ false
   pub no_lines : b ≡ []
+  pub none_aside : aside ≡ []
 
 -- K-Split as it is opened on these cells, at this volume
 pub record IsOpened (cells : List Cell) (v : Volume) (batched : Bool) (k : View) : Type 0 where

@@ -26,7 +26,8 @@ impl KSplit {
         requires may { self.old.lost ≡ false → MayDrop ino self.old.volume }
         ensures steps { Steps 256 power.old power.new }
         ensures paid { IsPaid None power.old power.new result }
-        ensures answer { IsDropAnswer ino self.old self.new result }
+        ensures answer { self.old.batched ≡ false
+            → IsDropAnswer ino self.old self.new result }
         ensures memory { result ≢ Err KFault.NoMemory }
     {
         if !power.on() {
@@ -34,6 +35,7 @@ impl KSplit {
             return Err(KFault::PowerLost);
         }
         self.tables.drop_node(&mut self.batch, ino);
+        self.tables.release();
         land_plan(
             &mut self.batch,
             &mut self.pm,

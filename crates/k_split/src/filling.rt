@@ -10,7 +10,7 @@ use crate::faults::KFault;
 use crate::mapping::land_maps_plan;
 use crate::state::KSplit;
 use block_io::zero_blocks;
-use k_map_plans::{Batch, NewMap, Tables, may_fill, plan_fill};
+use k_map_plans::{Batch, MapFault, NewMap, Tables, may_fill, plan_fill};
 use pm_lines::{Pm, Power};
 use std::alloc::Global;
 use std::slice;
@@ -73,7 +73,8 @@ impl KSplit {
         ensures steps { Steps (2 ^ 15 + 1024 * hole_count ino first count self.old)
             power.old power.new }
         ensures paid { IsPaid (fill_row ino first count self.old) power.old power.new result }
-        ensures answer { IsFillAnswer ino first count self.old self.new result }
+        ensures answer { self.old.batched ≡ false
+            → IsFillAnswer ino first count self.old self.new result }
     {
         if !power.on() {
             self.lost = true;
@@ -93,8 +94,10 @@ impl KSplit {
             count,
         ) {
             Ok(planned) => planned,
-            Err(_) => return Err(KFault::NoMemory),
+            Err(MapFault::NoMemory) => return Err(KFault::NoMemory),
+            Err(MapFault::Few) => unreachable!(),
         };
+        self.tables.release();
         land_filled(
             &fresh,
             &map,

@@ -14,7 +14,8 @@
 //! Handed no power, a change answers PowerLost at once, and K-Split is lost. `directory_of` is apart, so
 //! that ENOENT comes before EMFILE and EMFILE before ENOSPC. `fill_holes` does nothing without holes, not
 //! even a move of the chain. `restart_log` zeroes the lines durably, then sets the base by one transaction.
-//! `batched` is false by now: the batch that gathers several changes waits for POSIX mode.
+//! `answer` of a change speaks of a K-Split whose changes do not gather in a batch; by now none is opened whose
+//! changes do (`batched`). Blocks that a change frees are free to take before it is landed: no other is planned till then.
 //!
 //! Stands on `k_plans` (changes of names), `k_map_plans` (of maps, and of what is applied), `block_io`, `k_reading`
 //! and `k_tables`.

@@ -36,7 +36,8 @@ impl KSplit {
         requires awake { self.old.lost ≡ true → is_on power.old ≡ false }
         ensures steps { Steps 256 power.old power.new }
         ensures paid { IsPaid (make_row path.now self.old) power.old power.new result }
-        ensures answer { IsMakeAnswer directory path.now self.old self.new result }
+        ensures answer { self.old.batched ≡ false
+            → IsMakeAnswer directory path.now self.old self.new result }
     {
         if !power.on() {
             self.lost = true;
@@ -45,6 +46,7 @@ impl KSplit {
         match self.tables.make(alloc, &mut self.batch, path, directory) {
             Err(fault) => Err(fault_of(fault)),
             Ok(ino) => {
+                self.tables.release();
                 match land_plan(
                     &mut self.batch,
                     &mut self.pm,

@@ -12,7 +12,7 @@ ghost use Rattle.k_split.specs.MapChanges.{IsMapLanded, IsMapPlanned, IsSizeAnsw
 use crate::faults::KFault;
 use crate::state::KSplit;
 use extent_map::ExtentMap;
-use k_map_plans::{Batch, Commit, NewMap, Tables, land_maps, plan_size};
+use k_map_plans::{Batch, Commit, MapFault, NewMap, Tables, land_maps, plan_size};
 use pm_lines::{Pm, Power};
 use std::alloc::Global;
 use std::slice;
@@ -102,7 +102,8 @@ impl KSplit {
             → reserve self.old.volume.geometry ≤ free_blocks_in self.old + 3 }
         ensures steps { Steps (2 ^ 15) power.old power.new }
         ensures paid { IsPaid None power.old power.new result }
-        ensures answer { IsSizeAnswer ino size self.old self.new result }
+        ensures answer { self.old.batched ≡ false
+            → IsSizeAnswer ino size self.old self.new result }
     {
         if !power.on() {
             self.lost = true;
@@ -110,8 +111,10 @@ impl KSplit {
         }
         let map = match plan_size(alloc, &mut self.tables, &mut self.batch, ino, size) {
             Ok(map) => map,
-            Err(_) => return Err(KFault::NoMemory),
+            Err(MapFault::NoMemory) => return Err(KFault::NoMemory),
+            Err(MapFault::Few) => unreachable!(),
         };
+        self.tables.release();
         land_maps_plan(
             listed(&map),
             &mut self.batch,

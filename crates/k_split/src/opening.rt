@@ -41,7 +41,7 @@ fn read_tables(alloc: Global, pm: &Pm, geometry: Geometry) -> Result<Tables, All
     requires numbers { geometry_of (words_of pm.now) ≡ geometry }
     requires checked { IsChecked (4096 * geometry.blocks) (words_of pm.now) }
     ensures { IfOk result (λ tables.
-        tables ≡ record { volume = volume geometry (words_of pm.now); waiting = [] }) }
+        tables ≡ record { volume = volume geometry (words_of pm.now); aside = []; waiting = [] }) }
 {
     prove!(geometry.blocks >= 64);
     let base = read_base(pm, &geometry);

@@ -10,7 +10,7 @@ use crate::faults::KFault;
 use crate::mapping::land_maps_plan;
 use crate::state::KSplit;
 use block_io::Move;
-use k_map_plans::plan_move;
+use k_map_plans::{MapFault, plan_move};
 use pm_lines::Power;
 use std::alloc::Global;
 
@@ -36,7 +36,8 @@ impl KSplit {
             → reserve self.old.volume.geometry ≤ free_blocks_in self.old + 2 }
         ensures steps { Steps (2 ^ 15) power.old power.new }
         ensures paid { IsPaid None power.old power.new result }
-        ensures answer { IsRelinkAnswer asked.now self.old self.new result }
+        ensures answer { self.old.batched ≡ false
+            → IsRelinkAnswer asked.now self.old self.new result }
     {
         if !power.on() {
             self.lost = true;
@@ -44,8 +45,10 @@ impl KSplit {
         }
         let (file, staging) = match plan_move(alloc, &mut self.tables, &mut self.batch, asked) {
             Ok(maps) => maps,
-            Err(_) => return Err(KFault::NoMemory),
+            Err(MapFault::NoMemory) => return Err(KFault::NoMemory),
+            Err(MapFault::Few) => unreachable!(),
         };
+        self.tables.release();
         let maps = [file, staging];
         land_maps_plan(
             &maps,

@@ -25,7 +25,8 @@ impl KSplit {
         requires awake { self.old.lost ≡ true → is_on power.old ≡ false }
         ensures steps { Steps 256 power.old power.new }
         ensures paid { IsPaid (unlink_row path.now self.old) power.old power.new result }
-        ensures answer { IsUnlinkAnswer path.now self.old self.new result }
+        ensures answer { self.old.batched ≡ false
+            → IsUnlinkAnswer path.now self.old self.new result }
         ensures memory { result ≢ Err KFault.NoMemory }
     {
         if !power.on() {
@@ -35,6 +36,7 @@ impl KSplit {
         match self.tables.unlink(&mut self.batch, path) {
             Err(fault) => Err(fault_of(fault)),
             Ok(ino) => {
+                self.tables.release();
                 match land_plan(
                     &mut self.batch,
                     &mut self.pm,
@@ -63,7 +65,8 @@ impl KSplit {
         requires awake { self.old.lost ≡ true → is_on power.old ≡ false }
         ensures steps { Steps 256 power.old power.new }
         ensures paid { IsPaid (rmdir_row path.now self.old) power.old power.new result }
-        ensures answer { IsRmdirAnswer path.now self.old self.new result }
+        ensures answer { self.old.batched ≡ false
+            → IsRmdirAnswer path.now self.old self.new result }
         ensures memory { result ≢ Err KFault.NoMemory }
     {
         if !power.on() {
@@ -72,13 +75,16 @@ impl KSplit {
         }
         match self.tables.rmdir(&mut self.batch, path) {
             Err(fault) => Err(fault_of(fault)),
-            Ok(()) => land_plan(
-                &mut self.batch,
-                &mut self.pm,
-                &self.tables,
-                &mut self.lost,
-                power,
-            ),
+            Ok(()) => {
+                self.tables.release();
+                land_plan(
+                    &mut self.batch,
+                    &mut self.pm,
+                    &self.tables,
+                    &mut self.lost,
+                    power,
+                )
+            }
         }
     }
 }

@@ -36,7 +36,8 @@ impl KSplit {
         requires awake { self.old.lost ≡ true → is_on power.old ≡ false }
         ensures steps { Steps 256 power.old power.new }
         ensures paid { IsPaid (rename_row path.now to.now self.old) power.old power.new result }
-        ensures answer { IsRenameAnswer path.now to.now self.old self.new result }
+        ensures answer { self.old.batched ≡ false
+            → IsRenameAnswer path.now to.now self.old self.new result }
     {
         if !power.on() {
             self.lost = true;
@@ -48,6 +49,7 @@ impl KSplit {
                 if self.batch.is_empty() {
                     return Ok(lost);
                 }
+                self.tables.release();
                 match land_plan(
                     &mut self.batch,
                     &mut self.pm,

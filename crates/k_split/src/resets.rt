@@ -35,7 +35,8 @@ impl KSplit {
         requires file { self.old.lost ≡ false → IsLiveFile ino self.old.volume }
         ensures steps { Steps 256 power.old power.new }
         ensures paid { IsPaid None power.old power.new result }
-        ensures answer { IsResetAnswer ino self.old self.new result }
+        ensures answer { self.old.batched ≡ false
+            → IsResetAnswer ino self.old self.new result }
         ensures content { Follows (KeepsUnloggedContent self.old.volume)
             self.old.cells self.new.cells }
     {
@@ -45,13 +46,16 @@ impl KSplit {
         }
         match plan_reset(alloc, &mut self.tables, &mut self.batch, ino) {
             Err(_) => Err(KFault::NoMemory),
-            Ok(()) => land_plan(
-                &mut self.batch,
-                &mut self.pm,
-                &self.tables,
-                &mut self.lost,
-                power,
-            ),
+            Ok(()) => {
+                self.tables.release();
+                land_plan(
+                    &mut self.batch,
+                    &mut self.pm,
+                    &self.tables,
+                    &mut self.lost,
+                    power,
+                )
+            }
         }
     }
 }

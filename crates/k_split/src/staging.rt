@@ -10,7 +10,7 @@ ghost use Rattle.k_split.specs.MapChanges.{IsGiveUpAnswer, IsPreallocateAnswer, 
 use crate::faults::KFault;
 use crate::mapping::land_maps_plan;
 use crate::state::KSplit;
-use k_map_plans::{plan_give_up, plan_preallocate};
+use k_map_plans::{MapFault, plan_give_up, plan_preallocate};
 use pm_lines::Power;
 use std::alloc::Global;
 use std::slice;
@@ -42,7 +42,8 @@ impl KSplit {
             → count + reserve self.old.volume.geometry ≤ free_blocks_in self.old + 1 }
         ensures steps { Steps (2 ^ 15) power.old power.new }
         ensures paid { IsPaid None power.old power.new result }
-        ensures answer { IsPreallocateAnswer staging count self.old self.new result }
+        ensures answer { self.old.batched ≡ false
+            → IsPreallocateAnswer staging count self.old self.new result }
     {
         if !power.on() {
             self.lost = true;
@@ -50,8 +51,10 @@ impl KSplit {
         }
         let map = match plan_preallocate(alloc, &mut self.tables, &mut self.batch, staging, count) {
             Ok(map) => map,
-            Err(_) => return Err(KFault::NoMemory),
+            Err(MapFault::NoMemory) => return Err(KFault::NoMemory),
+            Err(MapFault::Few) => unreachable!(),
         };
+        self.tables.release();
         land_maps_plan(
             slice::from_ref(&map),
             &mut self.batch,
@@ -79,7 +82,8 @@ impl KSplit {
             → IsStagedSingle staging self.old.volume self.old.cells }
         ensures steps { Steps (2 ^ 15) power.old power.new }
         ensures paid { IsPaid None power.old power.new result }
-        ensures answer { IsGiveUpAnswer staging self.old self.new result }
+        ensures answer { self.old.batched ≡ false
+            → IsGiveUpAnswer staging self.old self.new result }
     {
         if !power.on() {
             self.lost = true;
@@ -89,6 +93,7 @@ impl KSplit {
             Ok(map) => map,
             Err(_) => return Err(KFault::NoMemory),
         };
+        self.tables.release();
         land_maps_plan(
             slice::from_ref(&map),
             &mut self.batch,

@@ -1,5 +1,5 @@
 //! The state of K-Split, and what it is asked for without a look at a path.
-ghost use Rattle.std.specs.Prelude.{◌≡◌, false, IsTrue, ◌↔◌, ◌<◌};
+ghost use Rattle.std.specs.Prelude.{◌≡◌, [], false, IsTrue, ◌↔◌, ◌<◌};
 ghost use Rattle.layout_model.specs.Names.{names_of};
 ghost use Rattle.k_map_plans.specs.k_plans.View.{node_at};
 ghost use Rattle.k_split.specs.Order.{IsInOrder};
@@ -17,6 +17,8 @@ pub struct KSplit {
     pub(crate) batch: Batch,
     pub(crate) batched: bool,
     pub(crate) lost: bool,
+    // Between two calls no block is set aside for a change.
+    ghost none_aside: { tables.aside ≡ [] },
 }
 
 impl Model for KSplit {
@@ -29,7 +31,7 @@ impl Model for KSplit {
     ghost view = { λ k. view_of k.tables k.pm k.batched k.lost };
 
     ghost invariant = { λ k. k.lost ≡ false
-        → IsReady (view_of k.tables k.pm k.batched k.lost) k.batch };
+        → IsReady (view_of k.tables k.pm k.batched k.lost) k.batch k.tables.aside };
 }
 
 impl KSplit {

@@ -1,12 +1,15 @@
 //! The holes of a file get blocks.
-ghost use Rattle.std.specs.Prelude.{◌≡◌, ◌<◌, ◌≤◌, ◌+◌, ◌^◌, ◌∷◌, [], ℕ, true, All, length, Ok, IfErr, IfOk, OnErr, OnOk};
-ghost use Rattle.k_plans.specs.image_model.Volume.{chain};
-ghost use Rattle.k_map_plans.specs.Plans.{fill_row, IsFillPlan, IsLiveFile, IsNotPlanned, MayFill, row_of};
-ghost use Rattle.k_plans.specs.Free.{is_free_block};
-ghost use Rattle.k_plans.specs.Switching.{IsMapPlan, WaitOnce};
+ghost use Rattle.std.specs.Prelude.{◌≡◌, ◌≢◌, ◌<◌, ◌≤◌, ◌+◌, ◌^◌, ◌∷◌, [], ℕ, true, All, length, Err, Ok, IfErr, IfOk, OnErr, OnOk};
+ghost use Rattle.k_plans.specs.image_model.Volume.{chain, extents};
+ghost use Rattle.k_map_plans.specs.Going.{HasSetAside};
+ghost use Rattle.k_map_plans.specs.Plans.{fill_row, IsFillPlan, IsLiveFile, IsNotMade, MayFill, row_of, WantsToFill};
+ghost use Rattle.k_plans.specs.Free.{SetsFreedAside, free_blocks, is_free_block};
+ghost use Rattle.k_plans.specs.Switching.{IsMapPlan};
+ghost use Rattle.k_plans.specs.layout_model.Places.{reserve};
 ghost use Rattle.k_plans.specs.k_split_model.MapChangesChanges.{Fills, holes, IsFilled};
 ghost use Rattle.k_plans.specs.volume_laws.Uses.{in_chain, in_map};
 
+use crate::map_plans::faults::MapFault;
 use crate::map_plans::going::go_over;
 use extent_map::{Extent, ExtentMap};
 use k_plans::{Batch, NewMap, Tables};
@@ -88,8 +91,8 @@ fn fill_map(map: &mut ExtentMap, first: u32, count: u32, fresh: &[u32]) -> Resul
     Ok(())
 }
 
-// Gives the holes of a range of a file the lowest free blocks. After an error blocks may wait, and
-// nothing else is changed.
+// Gives the holes of a range of a file the lowest free blocks. After an error blocks may be set
+// aside, and nothing else is changed.
 fn fill_file(
     alloc: Global,
     tables: &mut Tables,
@@ -97,25 +100,30 @@ fn fill_file(
     ino: u32,
     first: u32,
     count: u32,
-) -> Result<(Vec<u32>, NewMap), AllocError>
+) -> Result<(Vec<u32>, NewMap), MapFault>
     requires empty { batch.old ≡ [] }
-    requires idle { tables.old.waiting ≡ [] }
+    requires idle { tables.old.aside ≡ [] }
     requires file { IsLiveFile ino tables.old.volume }
     requires range { first + count ≤ 4096 }
-    requires may { MayFill ino first count tables.old }
-    ensures once { WaitOnce tables.new }
+    requires some { 0 < length (holes (extents tables.old.volume ino) first count) }
     ensures filled { IfOk result (λ c. IsFilled (is_free_block tables.old) ino first count
         tables.old.volume tables.new.volume c.0.items) }
     ensures plan { IfOk result (λ c.
         IsMapPlan (c.1 ∷ []) tables.old.volume tables.new.volume batch.new) }
     ensures chain { IfOk result (λ c. c.1.blocks ≡ chain tables.new.volume ino) }
-    ensures err { OnErr result (tables.new.volume ≡ tables.old.volume) }
+    ensures aside { OnOk result (SetsFreedAside tables.old tables.new) }
+    ensures waiting { OnOk result (tables.new.waiting ≡ tables.old.waiting) }
+    ensures few { result ≡ Err MapFault.Few
+        → ((n : ℕ) × WantsToFill ino first count tables.old n × (free_blocks tables.old < n))
+        × (free_blocks tables.old + 2 < length (holes (extents tables.old.volume ino) first count)
+        + reserve tables.old.volume.geometry) }
+    ensures err { OnErr result (HasSetAside tables.old tables.new) }
     ensures no_lines { OnErr result (batch.new ≡ []) }
 {
     let mut map = tables.map_copied(alloc, ino)?;
     let missing = hole_count(&map, first, count);
     let Some(fresh) = tables.set_aside(missing)? else {
-        unreachable!()
+        return Err(MapFault::Few);
     };
     fill_map(&mut map, first, count, &fresh)?;
     let line = tables.inodes()[ino as usize];
@@ -125,8 +133,13 @@ fn fill_file(
 
 /// Plans that the holes of a range of a file, of which there is one at least, get the lowest free
 /// blocks in rising order. It answers these blocks, of which nothing is written yet, and the new map.
-/// The old chain comes free at once, so the plan has to be landed before another one is begun. An
-/// error leaves tables and batch as they were.
+/// The old chain is set aside then.
+///
+/// # Errors
+///
+/// `Few` exactly where fewer blocks are free than the holes, or than the holes and the new chain. It
+/// does not come where as many are free as the holes and the reserve less 2. An error leaves tables
+/// and batch as they were.
 pub fn plan_fill(
     alloc: Global,
     tables: &mut Tables,
@@ -134,17 +147,21 @@ pub fn plan_fill(
     ino: u32,
     first: u32,
     count: u32,
-) -> Result<(Vec<u32>, NewMap), AllocError>
+) -> Result<(Vec<u32>, NewMap), MapFault>
     requires empty { batch.old ≡ [] }
-    requires idle { tables.old.waiting ≡ [] }
+    requires idle { tables.old.aside ≡ [] }
     requires file { IsLiveFile ino tables.old.volume }
     requires range { first + count ≤ 4096 }
-    requires may { MayFill ino first count tables.old }
+    requires some { 0 < length (holes (extents tables.old.volume ino) first count) }
     ensures planned { IfOk result (λ c.
         IsFillPlan ino first count tables.old tables.new batch.new c.0.items c.1) }
-    ensures err { IfErr result (λ _. IsNotPlanned tables.old tables.new batch.new) }
+    ensures err { IfErr result (IsNotMade (WantsToFill ino first count tables.old)
+        tables.old tables.new batch.new) }
+    ensures enough { MayFill ino first count tables.old → result ≢ Err MapFault.Few }
 {
     let planned = fill_file(alloc, tables, batch, ino, first, count);
-    tables.release();
+    if planned.is_err() {
+        tables.release();
+    }
     planned
 }

@@ -1,5 +1,5 @@
 //! Blocks go from a staging file to a file.
-ghost use Rattle.std.specs.Prelude.{◌≡◌, ◌<◌, ◌≤◌, ◌+◌, ◌++◌, ◌^◌, ◌∷◌, [], ℕ, All, List, length, IfOk, OnErr, OnOk};
+ghost use Rattle.std.specs.Prelude.{◌≡◌, ◌≢◌, ◌<◌, ◌≤◌, ◌+◌, ◌++◌, ◌^◌, ◌∷◌, [], ℕ, All, List, length, Err, IfOk, OnErr, OnOk};
 ghost use Rattle.block_counts.specs.Counts.{chains_for};
 ghost use Rattle.k_plans.specs.layout_model.Places.{reserve};
 ghost use Rattle.k_plans.specs.image_model.Volume.{Volume, chain, extents, inode};
@@ -8,15 +8,17 @@ ghost use Rattle.k_relink.specs.extent_model.declared.extent_words.Extent.{Exten
 ghost use Rattle.k_relink.specs.extent_model.Moves.{IsMapped, Moves};
 ghost use Rattle.k_plans.specs.LandingsPlans.{IsMapFrom, NewChain, Turns};
 ghost use Rattle.k_map_plans.specs.Moving.{MayGoBoth, moved_volume};
-ghost use Rattle.k_map_plans.specs.Plans.{IsMovePlan, MayMove};
-ghost use Rattle.k_plans.specs.Free.{free_blocks, is_free_block};
-ghost use Rattle.k_plans.specs.Switching.{IsMapPlan, IsSetAside, WaitOnce};
+ghost use Rattle.k_map_plans.specs.Going.{HasSetAside};
+ghost use Rattle.k_map_plans.specs.Plans.{IsMovePlan, MayMove, WantsToMove};
+ghost use Rattle.k_plans.specs.Free.{AreKeptBack, SetsFreedAside, free_blocks, is_free_block};
+ghost use Rattle.k_plans.specs.Switching.{IsMapPlan, IsSetAside};
 ghost use Rattle.k_plans.specs.volume_laws.Uses.{in_chain, in_map};
 ghost use Rattle.k_plans.specs.Whole.{IsWhole};
 ghost use Rattle.k_plans.specs.k_split_model.MapChangesChanges.{IsMoved, with_length};
 ghost use Rattle.k_plans.specs.k_split_model.Taken.{switched, with_map};
 ghost use Rattle.k_plans.specs.volume_change_laws.Hits.{AreAt};
 
+use crate::map_plans::faults::MapFault;
 use crate::map_plans::lists::push_extents;
 use block_counts::chains_for;
 use extent_map::{Extent, ExtentMap};
@@ -50,7 +52,7 @@ struct Placed {
 }
 
 // What the tables take in a move: the map and the chain of the staging file and of the file, and the
-// blocks that wait behind each.
+// blocks that are set aside behind each.
 #[derive(Drop)]
 struct Going {
     left: ExtentMap,
@@ -62,12 +64,12 @@ struct Going {
 }
 
 // Sets blocks aside for the chains of both maps, those of the file's first.
-fn set_both_aside(tables: &mut Tables, linked: Relinked) -> Result<Placed, AllocError>
-    requires idle { tables.old.waiting ≡ [] }
-    requires room { chains_for (length linked.dst) + chains_for (length linked.src)
-        ≤ free_blocks tables.old }
-    ensures once { WaitOnce tables.new }
-    ensures volume { tables.new.volume ≡ tables.old.volume }
+fn set_both_aside(tables: &mut Tables, linked: Relinked) -> Result<Placed, MapFault>
+    requires idle { tables.old.aside ≡ [] }
+    ensures aside { HasSetAside tables.old tables.new }
+    ensures back { OnOk result (AreKeptBack tables.old) }
+    ensures few { result ≡ Err MapFault.Few → free_blocks tables.old
+        < chains_for (length linked.dst) + chains_for (length linked.src) }
     ensures file_map { IfOk result (λ placed. placed.file.extents ≡ linked.dst) }
     ensures staging_map { IfOk result (λ placed. placed.staging.extents ≡ linked.src) }
     ensures displaced { IfOk result (λ placed. placed.displaced.items ≡ linked.freed.items) }
@@ -87,7 +89,7 @@ fn set_both_aside(tables: &mut Tables, linked: Relinked) -> Result<Placed, Alloc
     let count = chains_for(dst.extents().len() as u64) as u32;
     let rest_count = chains_for(src.extents().len() as u64) as u32;
     let Some(mut blocks) = tables.set_aside(count + rest_count)? else {
-        unreachable!()
+        return Err(MapFault::Few);
     };
     let rest = blocks.split_off(count as usize)?;
     Ok(Placed {
@@ -183,8 +185,10 @@ fn taken_by(
 fn switch_both(tables: &mut Tables, batch: &mut Batch, asked: &Move, going: Going)
     requires empty { batch.old ≡ [] }
     requires may { MayGoBoth asked.now tables.old going.left going.rest.items going.gone.items going.linked going.blocks.items going.freed.items }
-    ensures once { WaitOnce tables.new }
     ensures whole { IsWhole tables.new.volume }
+    ensures free { (b : ℕ) → is_free_block tables.new b ≡ is_free_block tables.old b }
+    ensures back { AreKeptBack tables.new }
+    ensures waiting { tables.new.waiting ≡ tables.old.waiting }
     ensures moved { tables.new.volume ≡ moved_volume asked.now going.left going.rest.items going.linked going.blocks.items tables.old.volume }
     ensures turns { (news : List NewChain) (v : Volume)
         → IsMapFrom news tables.old.volume asked.now.staging
@@ -215,7 +219,7 @@ fn switch_both(tables: &mut Tables, batch: &mut Batch, asked: &Move, going: Goin
 }
 
 // Sets blocks for the two chains aside, and lets the two inodes go over to their maps. After an
-// error blocks may wait, and nothing else is changed.
+// error blocks may be set aside, and nothing else is changed.
 fn place_both(
     alloc: Global,
     tables: &mut Tables,
@@ -223,9 +227,9 @@ fn place_both(
     asked: &Move,
     moved: &[u32],
     linked: Relinked,
-) -> Result<(NewMap, NewMap), AllocError>
+) -> Result<(NewMap, NewMap), MapFault>
     requires empty { batch.old ≡ [] }
-    requires idle { tables.old.waiting ≡ [] }
+    requires idle { tables.old.aside ≡ [] }
     requires may { MayMove asked.now tables.old.volume }
     requires source { IsCanonical (extents tables.old.volume asked.now.staging) }
     requires target { IsCanonical (extents tables.old.volume asked.now.ino) }
@@ -235,8 +239,6 @@ fn place_both(
     requires at { AreAt (extents tables.old.volume asked.now.staging) asked.now.staging_block moved.now }
     requires size { length moved.now ≡ asked.now.count }
     requires whole { IsWhole tables.old.volume }
-    requires room { reserve tables.old.volume.geometry ≤ free_blocks tables.old + 2 }
-    ensures once { WaitOnce tables.new }
     ensures moved { OnOk result (IsMoved (is_free_block tables.old) asked.now
         tables.old.volume tables.new.volume linked.freed.items) }
     ensures plan { IfOk result (λ c.
@@ -244,7 +246,12 @@ fn place_both(
     ensures file_chain { IfOk result (λ c. c.0.blocks ≡ chain tables.new.volume asked.now.ino) }
     ensures staging_chain { IfOk result (λ c.
         c.1.blocks ≡ chain tables.new.volume asked.now.staging) }
-    ensures err { OnErr result (tables.new.volume ≡ tables.old.volume) }
+    ensures aside { OnOk result (SetsFreedAside tables.old tables.new) }
+    ensures waiting { OnOk result (tables.new.waiting ≡ tables.old.waiting) }
+    ensures few { result ≡ Err MapFault.Few
+        → ((n : ℕ) × WantsToMove asked.now tables.old.volume n × (free_blocks tables.old < n))
+        × (free_blocks tables.old + 2 < reserve tables.old.volume.geometry) }
+    ensures err { OnErr result (HasSetAside tables.old tables.new) }
     ensures no_lines { OnErr result (batch.new ≡ []) }
 {
     let placed = set_both_aside(tables, linked)?;
@@ -253,19 +260,17 @@ fn place_both(
     Ok((placed.file, placed.staging))
 }
 
-// Moves the blocks on the tables. What the file had in their place waits then. After an error
-// blocks may wait, and nothing else is changed.
+// Moves the blocks on the tables. What the file had in their place is set aside then. After an error
+// blocks may be set aside, and nothing else is changed.
 fn move_blocks(
     alloc: Global,
     tables: &mut Tables,
     batch: &mut Batch,
     asked: &Move,
-) -> Result<(NewMap, NewMap), AllocError>
+) -> Result<(NewMap, NewMap), MapFault>
     requires empty { batch.old ≡ [] }
-    requires idle { tables.old.waiting ≡ [] }
+    requires idle { tables.old.aside ≡ [] }
     requires may { MayMove asked.now tables.old.volume }
-    requires room { reserve tables.old.volume.geometry ≤ free_blocks tables.old + 2 }
-    ensures once { WaitOnce tables.new }
     ensures moved { OnOk result ((displaced : List Extent) × IsMoved (is_free_block tables.old)
         asked.now tables.old.volume tables.new.volume displaced) }
     ensures plan { IfOk result (λ c.
@@ -273,7 +278,12 @@ fn move_blocks(
     ensures file_chain { IfOk result (λ c. c.0.blocks ≡ chain tables.new.volume asked.now.ino) }
     ensures staging_chain { IfOk result (λ c.
         c.1.blocks ≡ chain tables.new.volume asked.now.staging) }
-    ensures err { OnErr result (tables.new.volume ≡ tables.old.volume) }
+    ensures aside { OnOk result (SetsFreedAside tables.old tables.new) }
+    ensures waiting { OnOk result (tables.new.waiting ≡ tables.old.waiting) }
+    ensures few { result ≡ Err MapFault.Few
+        → ((n : ℕ) × WantsToMove asked.now tables.old.volume n × (free_blocks tables.old < n))
+        × (free_blocks tables.old + 2 < reserve tables.old.volume.geometry) }
+    ensures err { OnErr result (HasSetAside tables.old tables.new) }
     ensures no_lines { OnErr result (batch.new ≡ []) }
 {
     let src = tables.map_copied(alloc, asked.staging)?;
@@ -288,28 +298,35 @@ fn move_blocks(
         asked.count,
     ) {
         Ok(linked) => place_both(alloc, tables, batch, asked, &moved, linked),
-        Err(RelinkFault::NoMemory) => Err(AllocError),
+        Err(RelinkFault::NoMemory) => Err(MapFault::NoMemory),
         Err(RelinkFault::Hole { .. }) => unreachable!(),
     }
 }
 
 /// Plans that blocks go from a staging file to a file, which has the size and the order of its last
 /// entry then. It answers the new maps of the file and of the staging file. What the file had in
-/// their place comes free at once, so the plan has to be landed before another one is begun. An
-/// error leaves tables and batch as they were.
+/// their place is set aside then, with the two old chains.
+///
+/// # Errors
+///
+/// `Few` exactly where fewer blocks are free than the chains of the two new maps take. It does not come
+/// where as many are free as the reserve less 2. An error leaves tables and batch as they were.
 pub fn plan_move(
     alloc: Global,
     tables: &mut Tables,
     batch: &mut Batch,
     asked: &Move,
-) -> Result<(NewMap, NewMap), AllocError>
+) -> Result<(NewMap, NewMap), MapFault>
     requires empty { batch.old ≡ [] }
-    requires idle { tables.old.waiting ≡ [] }
+    requires idle { tables.old.aside ≡ [] }
     requires may { MayMove asked.now tables.old.volume }
-    requires room { reserve tables.old.volume.geometry ≤ free_blocks tables.old + 2 }
-    ensures { IsMovePlan asked.now tables.old tables.new batch.new result }
+    ensures answer { IsMovePlan asked.now tables.old tables.new batch.new result }
+    ensures enough { reserve tables.old.volume.geometry ≤ free_blocks tables.old + 2
+        → result ≢ Err MapFault.Few }
 {
     let planned = move_blocks(alloc, tables, batch, asked);
-    tables.release();
+    if planned.is_err() {
+        tables.release();
+    }
     planned
 }

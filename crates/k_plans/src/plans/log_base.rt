@@ -12,6 +12,7 @@ impl Tables {
     /// no memory. The batch is empty, and the base is at least 1 and at most 2^63.
     pub fn set_base(&mut self, batch: &mut Batch, base: u64)
         requires empty { batch.old ≡ [] }
+        requires idle { self.old.aside ≡ [] }
         requires least { 1 ≤ base }
         requires most { base ≤ 2 ^ 63 }
         ensures set { self.new ≡ with_volume (base_set base self.old.volume) self.old }

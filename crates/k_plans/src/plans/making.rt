@@ -110,6 +110,7 @@ impl Tables {
         name: NameLine,
     ) -> Result<(), AllocError>
         requires empty { batch.old ≡ [] }
+        requires idle { self.old.aside ≡ [] }
         requires spelled { AreSpelled path.now }
         requires place { IsPlace self.old.volume.inodes self.old.volume.names path.now place }
         requires name { name ≡ row_to path.now place.parent place.ino }
@@ -139,6 +140,7 @@ impl Tables {
         directory: bool,
     ) -> Result<u32, PlanFault>
         requires empty { batch.old ≡ [] }
+        requires idle { self.old.aside ≡ [] }
         requires spelled { AreSpelled path.now }
         ensures { IsMakePlan directory path.now self.old self.new batch.new result }
     {

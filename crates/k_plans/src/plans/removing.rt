@@ -51,6 +51,7 @@ impl Tables {
     // Takes the name of a file away.
     fn unlink_at(&mut self, batch: &mut Batch, path: &Path, entry: Entry)
         requires empty { batch.old ≡ [] }
+        requires idle { self.old.aside ≡ [] }
         requires entry { IsFileAt self.old.volume.inodes self.old.volume.names path.now entry }
         ensures unnamed { self.new ≡ with_volume (unnamed entry.line self.old.volume) self.old }
         ensures plan { IsPlan self.old self.new batch.new }
@@ -64,7 +65,8 @@ impl Tables {
     ///
     /// `Refused` comes exactly where the rows of `unlink` say. It takes no memory.
     pub fn unlink(&mut self, batch: &mut Batch, path: &Path) -> Result<u32, PlanFault>
-        requires { batch.old ≡ [] }
+        requires empty { batch.old ≡ [] }
+        requires idle { self.old.aside ≡ [] }
         ensures answer { IsUnlinkPlan path.now self.old self.new batch.new result }
         ensures memory { result ≢ Err PlanFault.NoMemory }
     {
@@ -80,6 +82,7 @@ impl Tables {
     // Takes a directory without entries away.
     fn remove_at(&mut self, batch: &mut Batch, path: &Path, entry: Entry)
         requires empty { batch.old ≡ [] }
+        requires idle { self.old.aside ≡ [] }
         requires entry { IsDirectoryAt self.old.volume.inodes self.old.volume.names path.now entry }
         ensures removed { self.new
             ≡ with_volume (removed entry.line entry.child self.old.volume) self.old }
@@ -96,7 +99,8 @@ impl Tables {
     ///
     /// `Refused` comes exactly where the rows of `rmdir` say. It takes no memory.
     pub fn rmdir(&mut self, batch: &mut Batch, path: &Path) -> Result<(), PlanFault>
-        requires { batch.old ≡ [] }
+        requires empty { batch.old ≡ [] }
+        requires idle { self.old.aside ≡ [] }
         ensures answer { IsRmdirPlan path.now self.old self.new batch.new result }
         ensures memory { result ≢ Err PlanFault.NoMemory }
     {

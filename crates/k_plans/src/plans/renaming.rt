@@ -89,6 +89,7 @@ impl Tables {
         name: NameLine,
     ) -> Result<(), AllocError>
         requires empty { batch.old ≡ [] }
+        requires idle { self.old.aside ≡ [] }
         requires spelled { AreSpelled to.now }
         requires rows { first (rename_rows (volume_space self.old.volume) path.now to.now) ≡ None }
         requires moving { IsMoving self.old.volume.inodes self.old.volume.names
@@ -117,6 +118,7 @@ impl Tables {
         target: Entry,
     )
         requires empty { batch.old ≡ [] }
+        requires idle { self.old.aside ≡ [] }
         requires spelled { AreSpelled to.now }
         requires rows { first (rename_rows (volume_space self.old.volume) path.now to.now) ≡ None }
         requires moving { IsMoving self.old.volume.inodes self.old.volume.names
@@ -143,6 +145,7 @@ impl Tables {
         target: Entry,
     )
         requires empty { batch.old ≡ [] }
+        requires idle { self.old.aside ≡ [] }
         requires spelled { AreSpelled to.now }
         requires rows { first (rename_rows (volume_space self.old.volume) path.now to.now) ≡ None }
         requires moving { IsMoving self.old.volume.inodes self.old.volume.names
@@ -178,6 +181,7 @@ impl Tables {
         name: NameLine,
     ) -> Result<Option<u32>, AllocError>
         requires empty { batch.old ≡ [] }
+        requires idle { self.old.aside ≡ [] }
         requires spelled { AreSpelled to.now }
         requires rows { first (rename_rows (volume_space self.old.volume) path.now to.now) ≡ None }
         requires moving { IsMoving self.old.volume.inodes self.old.volume.names
@@ -222,6 +226,7 @@ impl Tables {
         to: &Path,
     ) -> Result<Option<u32>, PlanFault>
         requires empty { batch.old ≡ [] }
+        requires idle { self.old.aside ≡ [] }
         requires spelled { AreSpelled to.now }
         ensures { IsRenamePlan path.now to.now self.old self.new batch.new result }
     {

@@ -1,9 +1,11 @@
 //! The tables: how they are made of what was read, and what they are asked for.
 ghost use Rattle.std.specs.Prelude.{◌≡◌, ◌<◌, ◌↔◌, [], length, if◌then◌else◌, None, Some, IfOk, IfSome, IsSome, IsTrue};
 ghost use Rattle.layout_model.specs.Names.{names_of};
+ghost use Rattle.layout_model.specs.Places.{IsGeometry, data_blocks, first_data};
+ghost use Rattle.k_reading.specs.block_pool.FreeSets.{free_list};
 ghost use Rattle.k_tables.specs.k_split_model.Spaces.{is_free};
 ghost use Rattle.k_tables.specs.image_model.Volume.{extents};
-ghost use Rattle.k_plans.specs.Free.{free_blocks};
+ghost use Rattle.k_plans.specs.Free.{AreKeptBack, free_blocks};
 ghost use Rattle.k_plans.specs.PlansLaws.{FreeAreUnused, IsBehindStaging, IsWholeWhereRead};
 ghost use Rattle.k_plans.specs.View.{node_at, tables_view};
 ghost use Rattle.k_plans.specs.Whole.{IsWhole};
@@ -17,8 +19,9 @@ use std::alloc::{AllocError, Global};
 use std::marker::Model;
 
 /// The tables of a volume: its inodes, its names, and of each inode the blocks of its chain and its
-/// map; with the blocks that are free, and those that came free and wait for a commit. Contracts
-/// see the volume and the blocks that wait.
+/// map; with the blocks that are free, those that are set aside for the change that is planned or came
+/// free in it, and those that came free and wait for a commit. Contracts see the volume, the blocks that
+/// are set aside and those that wait.
 #[derive(Debug, Drop)]
 pub struct Tables {
     pub(crate) geometry: Geometry,
@@ -28,20 +31,27 @@ pub struct Tables {
     pub(crate) chains: Vec<Blocks>,
     pub(crate) maps: Vec<ExtentMap>,
     pub(crate) pool: Pool,
-    pub(crate) waiting: Vec<u32>,
+    // What is set aside: the blocks of a map that was given up, and those of a list.
+    pub(crate) dropped: ExtentMap,
+    pub(crate) aside: Vec<u32>,
+    // The blocks that wait, as a pool in which they are the free ones.
+    pub(crate) held: Pool,
 }
 
 impl Model for Tables {
-    ghost use Rattle.k_plans.specs.View.{TablesView, tables_view};
+    ghost use Rattle.std.specs.Prelude.{◌++◌};
+    ghost use Rattle.k_reading.specs.block_pool.FreeSets.{free_list};
+    ghost use Rattle.k_plans.specs.View.{TablesView, map_blocks, tables_view};
     ghost use Rattle.k_plans.specs.Free.{AreTables};
 
     ghost Value = { TablesView };
 
     ghost view = { λ t. tables_view t.geometry t.base t.inodes.items t.names
-        t.chains.items t.maps.items t.waiting.items };
+        t.chains.items t.maps.items (map_blocks t.dropped ++ t.aside.items) (free_list t.held) };
 
     ghost invariant = { λ t. AreTables (tables_view t.geometry t.base t.inodes.items t.names
-        t.chains.items t.maps.items t.waiting.items) t.pool };
+        t.chains.items t.maps.items (map_blocks t.dropped ++ t.aside.items) (free_list t.held))
+        t.pool t.held };
 }
 
 // The inode, where one is in use there.
@@ -54,9 +64,19 @@ fn used_inode(inode: Inode) -> Option<Inode>
     }
 }
 
+// A pool of the data blocks in which none is free.
+fn none_held(alloc: Global, geometry: &Geometry) -> Result<Pool, AllocError>
+    requires { IsGeometry geometry.now }
+    ensures first { IfOk result (λ held. held.first ≡ first_data geometry.now) }
+    ensures count { IfOk result (λ held. length held.marks ≡ data_blocks geometry.now) }
+    ensures none { IfOk result (λ held. free_list held ≡ []) }
+{
+    Pool::none(alloc, geometry.first_data(), geometry.data_blocks())
+}
+
 impl Tables {
     /// The tables of a volume that was read: its numbers, its log base, its inodes and names, and
-    /// of each inode its chain and its map. Nothing waits for a commit.
+    /// of each inode its chain and its map. Nothing is set aside, and nothing waits for a commit.
     pub fn of(
         alloc: Global,
         geometry: Geometry,
@@ -66,11 +86,13 @@ impl Tables {
         maps: Maps,
     ) -> Result<Tables, AllocError>
         requires { IsWhole (tables_view geometry base inodes.items names
-            maps.chains.items maps.maps.items []).volume }
+            maps.chains.items maps.maps.items [] []).volume }
         ensures { IfOk result (λ tables. tables
-            ≡ tables_view geometry base inodes.items names maps.chains.items maps.maps.items []) }
+            ≡ tables_view geometry base inodes.items names maps.chains.items maps.maps.items
+            [] []) }
     {
         let pool = free_blocks(alloc, &geometry, &maps.chains, &maps.maps)?;
+        let held = none_held(alloc, &geometry)?;
         Ok(Tables {
             geometry,
             base,
@@ -79,14 +101,18 @@ impl Tables {
             chains: maps.chains,
             maps: maps.maps,
             pool,
-            waiting: Vec::new(alloc),
+            dropped: ExtentMap::new(alloc),
+            aside: Vec::new(alloc),
+            held,
         })
     }
 
-    /// The numbers of the image. The volume keeps the rules.
+    /// The numbers of the image. The volume keeps the rules, and blocks that are set aside or wait are
+    /// unused.
     pub fn geometry(&self) -> &Geometry
         ensures numbers { result.now ≡ self.now.volume.geometry }
         ensures whole { IsWhole self.now.volume }
+        ensures back { AreKeptBack self.now }
     {
         &self.geometry
     }
@@ -149,8 +175,8 @@ impl Tables {
         Some(&self.maps[place])
     }
 
-    /// How many data blocks may be taken: those that nothing names, less those that wait for a
-    /// commit.
+    /// How many data blocks may be taken: those that nothing names, less those that are set aside and
+    /// those that wait for a commit.
     pub fn free_blocks(&self) -> u32
         ensures { result ≡ free_blocks self.now }
     {
@@ -159,7 +185,7 @@ impl Tables {
 }
 
 /// A volume that is read from words, and keeps the rules, is one that tables may have; and where
-/// nothing waits, all blocks that nothing names are free.
+/// nothing is set aside and nothing waits, all blocks that nothing names are free.
 pub fn tables_begin_with_what_is_read()
     ensures whole { IsWholeWhereRead }
     ensures free { FreeAreUnused }

@@ -17,7 +17,7 @@ of-requires c =
     let is : IsGeometry c.args.geometry = subst IsGeometry c.geometry.view_is c.geometry.invariant in
     tables-whole c.args.geometry c.args.pm.now
     (tables_view c.args.geometry c.read_base-base.result c.in_ok-inodes.inodes.items c.in_ok-names.names c.in_ok-maps.maps.chains.items
-    c.in_ok-maps.maps.maps.items []) is open_is
+    c.in_ok-maps.maps.maps.items [] []) is open_is
     (tables-read c.args.geometry c.args.pm.now c.read_base-base.result c.in_ok-inodes.inodes.items c.in_ok-names.names c.in_ok-maps.maps.chains.items
     c.in_ok-maps.maps.maps.items is open_is c.read_base-base.ensures c.in_ok-inodes.ensures c.in_ok-names.ensures
     (λ h w size reads same. c.in_ok-maps.ensures.reads h w size reads (same ∙ sym c.deref.ensures.value)))
@@ -29,7 +29,7 @@ returns c =
     let is : IsGeometry c.args.geometry = subst IsGeometry c.geometry.view_is c.geometry.invariant in
     if-tables c.args.geometry c.args.pm.now
     (tables_view c.args.geometry c.read_base-base.result c.in_ok-inodes.inodes.items c.in_ok-names.names c.in_ok-maps.maps.chains.items
-    c.in_ok-maps.maps.maps.items []) c.of.result c.of.ensures
+    c.in_ok-maps.maps.maps.items [] []) c.of.result c.of.ensures
     (tables-read c.args.geometry c.args.pm.now c.read_base-base.result c.in_ok-inodes.inodes.items c.in_ok-names.names c.in_ok-maps.maps.chains.items
     c.in_ok-maps.maps.maps.items is open_is c.read_base-base.ensures c.in_ok-inodes.ensures c.in_ok-names.ensures
     (λ h w size reads same. c.in_ok-maps.ensures.reads h w size reads (same ∙ sym c.deref.ensures.value)))

@@ -9,23 +9,13 @@ use Rattle.k_plans.specs.k_journal.declared.batches.Record.{Record}
 use Rattle.k_plans.specs.LandingsPlans.{NewChain, Turns}
 use Rattle.k_plans.specs.LandingsPlans.IsMapFrom.{NewMap}
 use Rattle.k_plans.specs.Free.{is_free_block}
-use Rattle.k_plans.specs.Switching.{IsSetAside, WaitOnce}
+use Rattle.k_plans.specs.Switching.{IsSetAside}
 use Rattle.k_plans.specs.View.{TablesView}
 use Rattle.k_plans.specs.k_split_model.Taken.{AreLowest, switched}
 use Rattle.k_plans.specs.volume_change_laws.Switches.{MaySwitch}
 use Rattle.k_plans.specs.volume_laws.Uses.{in_chain, in_map}
-use Rattle.k_map_plans.proofs.Goings.{aside-once, aside-volume, may-switch, plan-one, switched-chain_is}
+use Rattle.k_map_plans.proofs.Goings.{aside-volume, aside-waiting, left-free, may-switch, plan-one, switched-chain_is}
 use Rattle.k_map_plans.proofs.map_plans.going.go_over.Goals as goal
-
-pub returns-in_err-blocks-clause-once : goal.returns-in_err-blocks-clause-once
-returns-in_err-blocks-clause-once c = subst WaitOnce (sym c.in_err-blocks.ensures.err) c.requires.may.once
-
-pub returns-in_err-chain-clause-once : goal.returns-in_err-chain-clause-once
-returns-in_err-chain-clause-once c =
-    let aside : IsSetAside c.chains_for-count.result c.in-Some.blocks.items c.args.tables.now c.set_aside.new.self =
-    rw c.in-Some.is at c.in_ok-blocks.ensures.taken
-    in
-    aside-once c.args.tables.now c.set_aside.new.self c.chains_for-count.result c.in-Some.blocks.items aside c.requires.may.once
 
 pub switch-requires-clause-may : goal.switch-requires-clause-may
 switch-requires-clause-may c =
@@ -36,11 +26,11 @@ switch-requires-clause-may c =
     let may = may-switch c.args.tables.now c.set_aside.new.self c.chains_for-count.result c.args.ino c.args.inode.now c.in-Some.blocks.items
     c.args.map.now c.args.freed.now c.push_extents.new.blocks.items aside c.requires.may
     (c.chains_for-count.ensures.count ∙ ap (λ (es : List Extent). chains_for (length es)) c.extents.ensures.all) (λ b.
-    c.in_ok-push_extents.ensures b ∙ ap (λ (bs : List ℕ). in_chain bs b + in_map c.args.freed.now b) (c.in_ok-waiting.ensures.items ∙ c.chain.ensures))
+    c.in_ok-push_extents.ensures b ∙ ap (λ (bs : List ℕ). in_chain bs b + in_map c.args.freed.now b) (c.in_ok-aside.ensures.items ∙ c.chain.ensures))
     in
-    subst (λ (bs : List ℕ). MaySwitch u.volume u.waiting c.args.ino c.args.inode.now bs c.in_ok-own.own c.push_extents.new.blocks.items)
+    subst (λ (bs : List ℕ). MaySwitch u.volume u.aside c.args.ino c.args.inode.now bs c.in_ok-own.own c.push_extents.new.blocks.items)
     (sym (c.in_ok-chain.ensures.items ∙ c.deref.ensures.value))
-    (subst (λ (es : List Extent). MaySwitch u.volume u.waiting c.args.ino c.args.inode.now c.in-Some.blocks.items es c.push_extents.new.blocks.items)
+    (subst (λ (es : List Extent). MaySwitch u.volume u.aside c.args.ino c.args.inode.now c.in-Some.blocks.items es c.push_extents.new.blocks.items)
     (sym c.in_ok-own.ensures.copy) may)
 
 pub returns-clause-gone : goal.returns-clause-gone
@@ -86,4 +76,7 @@ returns-clause-gone c =
           c.switch.ensures.some
           (omega (arith, c.switch.ensures.count, ap (λ (b : List Record). length b) c.requires.empty))
           c.switch.ensures.whole;
+      free = λ k. c.switch.ensures.free k ∙ left-free t u c.chains_for-count.result c.in-Some.blocks.items aside k;
+      back = c.switch.ensures.back;
+      waiting = ap (λ (x : TablesView). x.waiting) c.switch.ensures.switched ∙ aside-waiting t u c.chains_for-count.result c.in-Some.blocks.items aside;
     }

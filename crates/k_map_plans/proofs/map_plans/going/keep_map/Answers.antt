@@ -1,4 +1,6 @@
-use Rattle.std.proofs.Common.{◌∙◌, []}
+use Rattle.std.proofs.Common.{◌∙◌, [], ap}
+use Rattle.k_plans.specs.View.{TablesView}
+use Rattle.k_map_plans.proofs.Goings.{kept-aside}
 use Rattle.k_map_plans.proofs.Keeps.{keep-is, keep-may, keep-plan}
 use Rattle.k_map_plans.proofs.map_plans.going.keep_map.Goals as goal
 
@@ -19,3 +21,8 @@ returns-clause-plan c =
     (c.in_ok-blocks.ensures.items ∙ c.chain.ensures) c.in_ok-map.ensures.copy c.new.ensures.items c.switch.new.self c.args.batch.now c.switch.new.batch
     c.switch.ensures.switched c.requires.empty c.switch.ensures.some c.switch.ensures.count c.switch.ensures.whole
     (λ from. c.switch.ensures.turns [] t.volume from)
+
+pub returns-clause-aside : goal.returns-clause-aside
+returns-clause-aside c =
+    kept-aside c.args.tables.now c.switch.new.self c.requires.may.idle c.in_ok-map.ensures.back c.switch.ensures.back
+    (ap (λ (x : TablesView). x.waiting) c.switch.ensures.switched) c.switch.ensures.free

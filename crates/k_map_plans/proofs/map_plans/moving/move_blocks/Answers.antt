@@ -19,3 +19,6 @@ unreachable-requires c =
     subst (λ (es : List Extent). disk_at es block ≡ None) c.in_ok-src.ensures.copy hole.hole
     in
     no_hole (disk_at (extents c.args.tables.now.volume c.args.asked.now.staging) block) (c.requires.may.there block hole.behind hole.before) gone
+
+pub returns-in-Ok-clause-few : goal.returns-in-Ok-clause-few
+returns-in-Ok-clause-few c few = c.place_both.ensures.few few

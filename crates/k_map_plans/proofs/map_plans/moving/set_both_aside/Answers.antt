@@ -4,37 +4,28 @@ use Rattle.block_counts.specs.Counts.{chains_for}
 use Rattle.k_relink.specs.extent_model.declared.extent_words.Extent.{Extent}
 use Rattle.k_plans.specs.Free.{free_blocks}
 use Rattle.k_plans.specs.Switching.{IsSetAside}
-use Rattle.k_map_plans.proofs.Goings.{aside-volume, once-after}
+use Rattle.k_map_plans.proofs.Goings.{set-aside}
 use Rattle.k_map_plans.proofs.map_plans.moving.set_both_aside.Goals as goal
 
-pub unreachable-requires : goal.unreachable-requires
-unreachable-requires c =
-    let few : free_blocks c.args.tables.now < c.chains_for-count.result + c.chains_for-rest_count.result = rw c.in_default.is at c.in_ok-blocks.ensures.few in
-    absurd (omega (
+pub returns-in_default-clause-few : goal.returns-in_default-clause-few
+returns-in_default-clause-few c few =
+    let none : free_blocks c.args.tables.now < c.chains_for-count.result + c.chains_for-rest_count.result = rw c.in_default.is at c.in_ok-blocks.ensures.few in
+    omega (
       arith,
-      few,
-      c.requires.room,
+      none,
       c.chains_for-count.ensures.count,
       c.chains_for-rest_count.ensures.count,
       ap (λ (es : List Extent). chains_for (length es)) c.extents.ensures.all,
       ap (λ (es : List Extent). chains_for (length es)) c.extents-2.ensures.all,
-    ))
+    )
 
-pub returns-in_err-rest-clause-once : goal.returns-in_err-rest-clause-once
-returns-in_err-rest-clause-once c =
-    once-after c.args.tables.now c.set_aside.new.self _ _ c.requires.idle (rw c.in-Some.is at c.in_ok-blocks.ensures.taken)
+pub returns-in_err-rest-clause-aside : goal.returns-in_err-rest-clause-aside
+returns-in_err-rest-clause-aside c =
+    set-aside c.args.tables.now c.set_aside.new.self _ _ (rw c.in-Some.is at c.in_ok-blocks.ensures.taken)
 
-pub returns-clause-once : goal.returns-clause-once
-returns-clause-once c =
-    once-after c.args.tables.now c.set_aside.new.self _ _ c.requires.idle (rw c.in-Some.is at c.in_ok-blocks.ensures.taken)
-
-pub returns-in_err-rest-clause-volume : goal.returns-in_err-rest-clause-volume
-returns-in_err-rest-clause-volume c =
-    aside-volume c.args.tables.now c.set_aside.new.self _ _ (rw c.in-Some.is at c.in_ok-blocks.ensures.taken)
-
-pub returns-clause-volume : goal.returns-clause-volume
-returns-clause-volume c =
-    aside-volume c.args.tables.now c.set_aside.new.self _ _ (rw c.in-Some.is at c.in_ok-blocks.ensures.taken)
+pub returns-clause-aside : goal.returns-clause-aside
+returns-clause-aside c =
+    set-aside c.args.tables.now c.set_aside.new.self _ _ (rw c.in-Some.is at c.in_ok-blocks.ensures.taken)
 
 pub returns-clause-file_size : goal.returns-clause-file_size
 returns-clause-file_size c =

@@ -3,8 +3,8 @@ use Rattle.block_io.specs.layout_model.Places.{IsGeometry}
 use Rattle.k_split.proofs.OpenLaws.{openable, opened-as, opened-ready}
 use Rattle.k_split.proofs.state.KSplit.open.Goals as goal
 
-pub invariant_of-result : goal.invariant_of-result
-invariant_of-result c on =
+pub invariant_of-result-2 : goal.invariant_of-result-2
+invariant_of-result-2 c on =
     let r = c.requires in
     opened-ready c.args.geometry c.args.pm c.in_ok-tables.tables c.args.batched c.in_ok-batch.batch
     (subst IsGeometry c.geometry.view_is c.geometry.invariant)

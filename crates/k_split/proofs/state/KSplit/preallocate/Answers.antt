@@ -5,11 +5,14 @@ use Rattle.block_io.specs.pm_model.Powers.{is_on}
 use Rattle.k_map_plans.specs.k_plans.LandingsPlans.{NewChain, blocks_of}
 use Rattle.k_map_plans.specs.k_plans.WrittenLaws.{blocks_of-one}
 use Rattle.k_map_plans.specs.k_plans.Switching.{IsMapPlan}
+use Rattle.k_map_plans.specs.k_plans.Free.{is_free_block}
+use Rattle.k_map_plans.specs.k_plans.View.{TablesView}
 use Rattle.k_tables.specs.k_split_model.View.{View}
-use Rattle.block_io.specs.image_model.Volume.{extents, inode}
-use Rattle.block_io.specs.k_split_model.MapChangesChanges.{aged}
+use Rattle.block_io.specs.image_model.Volume.{extents, inode, Volume}
+use Rattle.block_io.specs.k_split_model.MapChangesChanges.{aged, IsPreallocated}
 use Rattle.k_split.proofs.ChangeLaws.{awake}
 use Rattle.k_split.proofs.MapAnswers.{map-answer, map-paid, map-planned, map-ready, filled-unstaged, unstaged-from}
+use Rattle.k_split.proofs.Released.{IsReleasedOne, made-released, one-released}
 use Rattle.k_split.specs.MapChanges.{IsMapPlanned, IsPreallocatedWith}
 use Rattle.k_split.specs.Order.{IsUnstagedSingle}
 use Rattle.k_split.proofs.state.KSplit.preallocate.Goals as goal
@@ -17,12 +20,17 @@ use Rattle.k_split.proofs.state.KSplit.preallocate.Goals as goal
 pub land_maps_plan-requires : goal.land_maps_plan-requires
 land_maps_plan-requires c =
     let k = c.self.inside in
-    let u = c.plan_preallocate.new.tables in
+    let u = c.release.new.self in
     let on : is_on c.args.power.now ≡ true = sym c.on.ensures ∙ c.if-not-on.false in
     let is : k.lost ≡ false = awake k.tables k.pm k.batched k.lost c.args.self.now c.args.power.now c.self.view_is c.requires.awake on in
-    let planned = c.in-Ok.ensures in
+    let one : IsReleasedOne c.args.staging k.tables u c.plan_preallocate.new.batch c.in-Ok.map =
+    one-released c.args.staging k.tables c.plan_preallocate.new.tables u c.plan_preallocate.new.batch c.in-Ok.map c.in-Ok.ensures.answer.1 c.release.ensures.released
+    in
+    let made = made-released (λ (x : TablesView) (w : Volume). IsPreallocated (is_free_block x) c.args.staging c.args.count x.volume w) k.tables c.plan_preallocate.new.tables u (c.self.invariant is).none_aside
+    c.release.ensures.released c.in-Ok.ensures.answer.0
+    in
     let plan : IsMapPlan c.from_ref.result.now k.tables.volume u.volume c.plan_preallocate.new.batch =
-    subst (λ (ns : List NewChain). IsMapPlan ns k.tables.volume u.volume c.plan_preallocate.new.batch) (sym c.from_ref.ensures.value) planned.1.plan
+    subst (λ (ns : List NewChain). IsMapPlan ns k.tables.volume u.volume c.plan_preallocate.new.batch) (sym c.from_ref.ensures.value) one.plan
     in
     let ready : IsMapPlanned c.from_ref.result.now k.tables.volume u.volume c.plan_preallocate.new.batch k.pm =
     map-planned k.tables u k.pm k.batched k.lost k.batch c.plan_preallocate.new.batch c.from_ref.result.now is c.self.invariant plan
@@ -32,12 +40,17 @@ land_maps_plan-requires c =
 pub invariant_of-self-2 : goal.invariant_of-self-2
 invariant_of-self-2 c off =
     let k = c.self.inside in
-    let u = c.plan_preallocate.new.tables in
+    let u = c.release.new.self in
     let on : is_on c.args.power.now ≡ true = sym c.on.ensures ∙ c.if-not-on.false in
     let is : k.lost ≡ false = awake k.tables k.pm k.batched k.lost c.args.self.now c.args.power.now c.self.view_is c.requires.awake on in
-    let planned = c.in-Ok.ensures in
+    let one : IsReleasedOne c.args.staging k.tables u c.plan_preallocate.new.batch c.in-Ok.map =
+    one-released c.args.staging k.tables c.plan_preallocate.new.tables u c.plan_preallocate.new.batch c.in-Ok.map c.in-Ok.ensures.answer.1 c.release.ensures.released
+    in
+    let made = made-released (λ (x : TablesView) (w : Volume). IsPreallocated (is_free_block x) c.args.staging c.args.count x.volume w) k.tables c.plan_preallocate.new.tables u (c.self.invariant is).none_aside
+    c.release.ensures.released c.in-Ok.ensures.answer.0
+    in
     let plan : IsMapPlan c.from_ref.result.now k.tables.volume u.volume c.plan_preallocate.new.batch =
-    subst (λ (ns : List NewChain). IsMapPlan ns k.tables.volume u.volume c.plan_preallocate.new.batch) (sym c.from_ref.ensures.value) planned.1.plan
+    subst (λ (ns : List NewChain). IsMapPlan ns k.tables.volume u.volume c.plan_preallocate.new.batch) (sym c.from_ref.ensures.value) one.plan
     in
     let ready : IsMapPlanned c.from_ref.result.now k.tables.volume u.volume c.plan_preallocate.new.batch k.pm =
     map-planned k.tables u k.pm k.batched k.lost k.batch c.plan_preallocate.new.batch c.from_ref.result.now is c.self.invariant plan
@@ -49,11 +62,11 @@ invariant_of-self-2 c off =
     let keeps : (e : List Cell) → KeepsSingle k.pm e → IsUnstagedSingle u.volume e =
     λ e singles.
     unstaged-from k.tables.volume u.volume k.pm e plan.geometry singles order.unstaged (λ i free.
-    inl (filled-unstaged k.tables.volume u.volume c.args.staging (aged (inode k.tables.volume c.args.staging)) planned.0.blocks planned.0.es
-    planned.0.is_preallocated bare (i / 512) free))
+    inl (filled-unstaged k.tables.volume u.volume c.args.staging (aged (inode k.tables.volume c.args.staging)) made.blocks made.es
+    made.is_preallocated bare (i / 512) free))
     in
     let landed = c.land_maps_plan.ensures.landed k.tables.volume ready in
-    map-ready k.tables u k.pm k.batched k.lost k.batch c.plan_preallocate.new.batch c.from_ref.result.now is c.self.invariant plan planned.1.waiting keeps
+    map-ready k.tables u k.pm k.batched k.lost k.batch c.plan_preallocate.new.batch c.from_ref.result.now is c.self.invariant plan one.waiting one.none_aside keeps
     (blocks_of c.from_ref.result.now)
     c.land_maps_plan.new.pm c.args.power.now c.land_maps_plan.new.power c.land_maps_plan.new.lost c.land_maps_plan.new.batch c.land_maps_plan.result landed
     c.land_maps_plan.ensures.no_lines c.land_maps_plan.ensures.noted off
@@ -61,12 +74,17 @@ invariant_of-self-2 c off =
 pub returns-clause-paid : goal.returns-clause-paid
 returns-clause-paid c =
     let k = c.self.inside in
-    let u = c.plan_preallocate.new.tables in
+    let u = c.release.new.self in
     let on : is_on c.args.power.now ≡ true = sym c.on.ensures ∙ c.if-not-on.false in
     let is : k.lost ≡ false = awake k.tables k.pm k.batched k.lost c.args.self.now c.args.power.now c.self.view_is c.requires.awake on in
-    let planned = c.in-Ok.ensures in
+    let one : IsReleasedOne c.args.staging k.tables u c.plan_preallocate.new.batch c.in-Ok.map =
+    one-released c.args.staging k.tables c.plan_preallocate.new.tables u c.plan_preallocate.new.batch c.in-Ok.map c.in-Ok.ensures.answer.1 c.release.ensures.released
+    in
+    let made = made-released (λ (x : TablesView) (w : Volume). IsPreallocated (is_free_block x) c.args.staging c.args.count x.volume w) k.tables c.plan_preallocate.new.tables u (c.self.invariant is).none_aside
+    c.release.ensures.released c.in-Ok.ensures.answer.0
+    in
     let plan : IsMapPlan c.from_ref.result.now k.tables.volume u.volume c.plan_preallocate.new.batch =
-    subst (λ (ns : List NewChain). IsMapPlan ns k.tables.volume u.volume c.plan_preallocate.new.batch) (sym c.from_ref.ensures.value) planned.1.plan
+    subst (λ (ns : List NewChain). IsMapPlan ns k.tables.volume u.volume c.plan_preallocate.new.batch) (sym c.from_ref.ensures.value) one.plan
     in
     let ready : IsMapPlanned c.from_ref.result.now k.tables.volume u.volume c.plan_preallocate.new.batch k.pm =
     map-planned k.tables u k.pm k.batched k.lost k.batch c.plan_preallocate.new.batch c.from_ref.result.now is c.self.invariant plan
@@ -75,14 +93,19 @@ returns-clause-paid c =
     map-paid (blocks_of c.from_ref.result.now) k.tables.volume u.volume k.pm c.land_maps_plan.new.pm c.args.power.now c.land_maps_plan.new.power c.land_maps_plan.result landed
 
 pub returns-clause-answer : goal.returns-clause-answer
-returns-clause-answer c =
+returns-clause-answer c off =
     let k = c.self.inside in
-    let u = c.plan_preallocate.new.tables in
+    let u = c.release.new.self in
     let on : is_on c.args.power.now ≡ true = sym c.on.ensures ∙ c.if-not-on.false in
     let is : k.lost ≡ false = awake k.tables k.pm k.batched k.lost c.args.self.now c.args.power.now c.self.view_is c.requires.awake on in
-    let planned = c.in-Ok.ensures in
+    let one : IsReleasedOne c.args.staging k.tables u c.plan_preallocate.new.batch c.in-Ok.map =
+    one-released c.args.staging k.tables c.plan_preallocate.new.tables u c.plan_preallocate.new.batch c.in-Ok.map c.in-Ok.ensures.answer.1 c.release.ensures.released
+    in
+    let made = made-released (λ (x : TablesView) (w : Volume). IsPreallocated (is_free_block x) c.args.staging c.args.count x.volume w) k.tables c.plan_preallocate.new.tables u (c.self.invariant is).none_aside
+    c.release.ensures.released c.in-Ok.ensures.answer.0
+    in
     let plan : IsMapPlan c.from_ref.result.now k.tables.volume u.volume c.plan_preallocate.new.batch =
-    subst (λ (ns : List NewChain). IsMapPlan ns k.tables.volume u.volume c.plan_preallocate.new.batch) (sym c.from_ref.ensures.value) planned.1.plan
+    subst (λ (ns : List NewChain). IsMapPlan ns k.tables.volume u.volume c.plan_preallocate.new.batch) (sym c.from_ref.ensures.value) one.plan
     in
     let ready : IsMapPlanned c.from_ref.result.now k.tables.volume u.volume c.plan_preallocate.new.batch k.pm =
     map-planned k.tables u k.pm k.batched k.lost k.batch c.plan_preallocate.new.batch c.from_ref.result.now is c.self.invariant plan
@@ -94,12 +117,12 @@ returns-clause-answer c =
     let keeps : (e : List Cell) → KeepsSingle k.pm e → IsUnstagedSingle u.volume e =
     λ e singles.
     unstaged-from k.tables.volume u.volume k.pm e plan.geometry singles order.unstaged (λ i free.
-    inl (filled-unstaged k.tables.volume u.volume c.args.staging (aged (inode k.tables.volume c.args.staging)) planned.0.blocks planned.0.es
-    planned.0.is_preallocated bare (i / 512) free))
+    inl (filled-unstaged k.tables.volume u.volume c.args.staging (aged (inode k.tables.volume c.args.staging)) made.blocks made.es
+    made.is_preallocated bare (i / 512) free))
     in
     let landed = c.land_maps_plan.ensures.landed k.tables.volume ready in
-    map-answer k.tables u k.pm k.batched k.lost k.batch c.plan_preallocate.new.batch c.from_ref.result.now is c.self.invariant plan planned.1.waiting keeps
+    map-answer k.tables u k.pm k.batched k.lost k.batch c.plan_preallocate.new.batch c.from_ref.result.now is c.self.invariant plan one.waiting one.none_aside keeps
     (blocks_of c.from_ref.result.now)
     (λ x w blocks. IsPreallocatedWith c.args.staging c.args.count x w blocks) c.args.self.now c.land_maps_plan.new.pm c.args.power.now c.land_maps_plan.new.power
     c.land_maps_plan.new.lost c.land_maps_plan.result c.land_maps_plan.ensures.same c.land_maps_plan.ensures.noted c.self.view_is
-    (record { preallocated = planned.0; written = ap blocks_of c.from_ref.ensures.value ∙ blocks_of-one c.in-Ok.map ∙ planned.1.chain_is }) landed
+    (record { preallocated = made; written = ap blocks_of c.from_ref.ensures.value ∙ blocks_of-one c.in-Ok.map ∙ one.chain_is }) landed

@@ -51,11 +51,11 @@ set_name-requires-clause-new c = λ k entry.
 
 pub invariant_of-self-2 : goal.invariant_of-self-2
 invariant_of-self-2 c =
-    makes-tables c.args.directory c.args.path.now c.args.place (before c) c.new_node-inode.result c.args.name c.set_name.new.names c.self.inside.pool
+    makes-tables c.args.directory c.args.path.now c.args.place (before c) c.new_node-inode.result c.args.name c.set_name.new.names c.self.inside.pool c.self.inside.held
     c.self.invariant (makes c)
 
 pub returns-clause-plan : goal.returns-clause-plan
 returns-clause-plan c =
     subst (λ (b : List Record). IsPlan c.args.self.now (with_lines c.args.place.ino c.new_node-inode.result c.set_name.new.names (before c)) b) (sym c.in_ok-set_name.ensures.planned)
     (makes-plan c.args.directory c.args.path.now c.args.place (before c) c.args.self.now c.new_node-inode.result c.args.name c.set_name.new.names c.put_node.new.batch
-    c.self.view_is c.self.invariant.whole (makes c) (c.put_node.ensures.turns (before c).volume) c.put_node.ensures.some c.put_node.ensures.most)
+    c.self.view_is c.self.invariant.whole (makes c) (c.put_node.ensures.turns (before c).volume) c.put_node.ensures.some c.put_node.ensures.most c.requires.idle)

@@ -45,7 +45,7 @@ put_name-requires-clause-fields c =
 
 pub invariant_of-self-2 : goal.invariant_of-self-2
 invariant_of-self-2 c =
-    after-tables (before c) _ (after c) c.self.inside.pool (is_after c) c.self.invariant
+    after-tables (before c) _ (after c) c.self.inside.pool c.self.inside.held (is_after c) c.self.invariant
     (moves-whole c.args.path.now c.args.to.now c.args.moving c.args.name (before c).volume c.self.invariant.whole (moves c) c.requires.target)
     refl (renamed-owners c.args.moving.entry.line c.args.name (before c).volume)
 
@@ -57,4 +57,5 @@ returns-clause-plan c =
     (subst (Turns c.self.inside.geometry [] (before c).volume (before c).volume) (sym c.requires.empty) (turns-none c.self.inside.geometry [] (before c).volume)))
     c.put_name.ensures.some (omega (arith, c.put_name.ensures.count, ap (λ (b : List Record). length b) c.requires.empty))
     (λ ino least few. refl)
-    (moves-whole c.args.path.now c.args.to.now c.args.moving c.args.name (before c).volume c.self.invariant.whole (moves c) c.requires.target))
+    (moves-whole c.args.path.now c.args.to.now c.args.moving c.args.name (before c).volume c.self.invariant.whole (moves c) c.requires.target)
+    c.requires.idle refl (renamed-owners c.args.moving.entry.line c.args.name (before c).volume))

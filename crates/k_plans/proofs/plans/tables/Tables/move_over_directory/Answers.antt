@@ -61,7 +61,7 @@ put_over_directory-requires-clause-name c =
 
 pub invariant_of-self : goal.invariant_of-self
 invariant_of-self c =
-    after-tables (before c) _ (after c) c.self.inside.pool (is_after c) c.self.invariant (whole_after c) refl
+    after-tables (before c) _ (after c) c.self.inside.pool c.self.inside.held (is_after c) c.self.invariant (whole_after c) refl
     (renamed_over_directory-owners c.args.moving.entry.line c.args.name c.args.target.line c.args.target.child (before c).volume)
 
 pub returns-clause-plan : goal.returns-clause-plan
@@ -76,7 +76,8 @@ returns-clause-plan c =
     (gone_is c)
     (c.put_over_directory.ensures.turns v (ap (λ (x : Inode). x.root) (gone_is c) ∙ sym none.root) (ap (λ (x : Inode). x.extents) (gone_is c) ∙ sym none.extents)))
     c.put_over_directory.ensures.some (omega (arith, c.put_over_directory.ensures.most))
-    (λ ino least few. refl) (whole_after c)
+    (λ ino least few. refl) (whole_after c) c.requires.idle refl
+    (renamed_over_directory-owners c.args.moving.entry.line c.args.name c.args.target.line c.args.target.child (before c).volume)
 
 pub returns-clause-renamed : goal.returns-clause-renamed
 returns-clause-renamed c = grind (arith, common_steps)

@@ -47,11 +47,12 @@ put_over_file-requires-clause-name c =
 
 pub invariant_of-self : goal.invariant_of-self
 invariant_of-self c =
-    after-tables (before c) _ (after c) c.self.inside.pool (is_after c) c.self.invariant (whole_after c) refl
+    after-tables (before c) _ (after c) c.self.inside.pool c.self.inside.held (is_after c) c.self.invariant (whole_after c) refl
     (renamed_over_file-owners c.args.moving.entry.line c.args.name c.args.target.line (before c).volume)
 
 pub returns-clause-plan : goal.returns-clause-plan
 returns-clause-plan c =
     plan-from (before c) c.args.self.now _ (after c) c.put_over_file.new.batch c.self.view_is (is_after c)
     (c.put_over_file.ensures.turns (before c).volume) c.put_over_file.ensures.some (omega (arith, c.put_over_file.ensures.most))
-    (λ ino least few. refl) (whole_after c)
+    (λ ino least few. refl) (whole_after c) c.requires.idle refl
+    (renamed_over_file-owners c.args.moving.entry.line c.args.name c.args.target.line (before c).volume)

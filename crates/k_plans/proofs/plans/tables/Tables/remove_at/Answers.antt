@@ -27,9 +27,10 @@ removes c =
 
 pub invariant_of-self : goal.invariant_of-self
 invariant_of-self c =
-    removes-tables c.args.path.now c.args.entry (before c) c.gone_node-gone.result c.clear.new.self c.self.inside.pool c.self.invariant (removes c)
+    removes-tables c.args.path.now c.args.entry (before c) c.gone_node-gone.result c.clear.new.self c.self.inside.pool c.self.inside.held c.self.invariant (removes c)
 
 pub returns-clause-plan : goal.returns-clause-plan
 returns-clause-plan c =
     removes-plan c.args.path.now c.args.entry (before c) c.args.self.now c.gone_node-gone.result c.clear.new.self c.put_removal.new.batch c.self.view_is
     c.self.invariant.whole (removes c) (c.put_removal.ensures.turns (before c).volume) c.put_removal.ensures.some c.put_removal.ensures.most
+    c.requires.idle

@@ -20,11 +20,11 @@ unnames c = record {
 
 pub invariant_of-self : goal.invariant_of-self
 invariant_of-self c =
-    unnames-tables c.args.path.now c.args.entry (before c) c.clear.new.self c.self.inside.pool c.self.invariant (unnames c)
+    unnames-tables c.args.path.now c.args.entry (before c) c.clear.new.self c.self.inside.pool c.self.inside.held c.self.invariant (unnames c)
 
 pub returns-clause-plan : goal.returns-clause-plan
 returns-clause-plan c =
     unnames-plan c.args.path.now c.args.entry (before c) c.args.self.now c.clear.new.self c.clear_name.new.batch c.self.view_is c.self.invariant.whole (unnames c)
     (c.clear_name.ensures.turns [] (before c).volume (before c).volume
     (subst (Turns c.self.inside.geometry [] (before c).volume (before c).volume) (sym c.requires.empty) (turns-none c.self.inside.geometry [] (before c).volume)))
-    c.clear_name.ensures.some (omega (arith, c.clear_name.ensures.count, ap (λ (b : List Record). length b) c.requires.empty))
+    c.clear_name.ensures.some (omega (arith, c.clear_name.ensures.count, ap (λ (b : List Record). length b) c.requires.empty)) c.requires.idle

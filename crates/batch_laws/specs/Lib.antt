@@ -7,5 +7,27 @@ pub mod Steps
 pub mod StepsLaws
 pub mod Goings
 pub mod GoingsLaws
+pub mod Ready
+pub mod Commits
+pub mod CommitsLaws
+pub mod Changes
+pub mod ChangesLaws
+pub mod Quiet
+pub mod QuietLaws
+pub mod SizedFound
+pub mod Calls
+pub mod CallSteps
+pub mod MadeLaws
+pub mod GoneLaws
+pub mod DropLaws
+pub mod RenameLaws
+pub mod Idle
+pub mod IdleLaws
+pub mod Losses
+pub mod LossesLaws
+pub mod Spaces
+pub mod SpacesLaws
+pub mod Beginnings
+pub mod BeginningsLaws
 pub use Rattle.live_model.specs as live_model
 pub use Rattle.posix_mode_laws.specs as posix_mode_laws

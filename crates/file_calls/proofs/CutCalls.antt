@@ -55,7 +55,7 @@ use Rattle.file_calls.proofs.Running.{fault_ended, leads_end, loses_cut}
 pub has_reserve : (k : View) (t : Tables) (fs : Files) → RunsInSome k t fs → reserve k.volume.geometry ≤ free_blocks_in k + 3
 has_reserve k t fs some =
     let free = some.runs.flying.device.room.free in
-    omega (arith, free, unwaiting-counted (record { volume = k.volume; waiting = k.waiting }) (some.runs.order.none_waits some.runs.unbatched))
+    omega (arith, free, unwaiting-counted (record { volume = k.volume; aside = []; waiting = k.waiting }) refl (some.runs.order.none_waits some.runs.unbatched))
 
 pub live_file : (k : View) (ino : ℕ) → (inode k.volume ino).kind ≡ File → IsLiveFile ino k.volume
 live_file k ino file = record { below = used_below k.volume ino (ap is_used file); file = file }

@@ -129,7 +129,7 @@ module _ (g : Geometry) (k : View) (t : Tables) (kept : Kept) (lines : Bool) (n 
     apart = all_apart;
     room =
         let free = stands.flying.device.room.free in
-        let counted = unwaiting-counted (record { volume = k.volume; waiting = k.waiting }) (stands.order.none_waits stands.unbatched) in
+        let counted = unwaiting-counted (record { volume = k.volume; aside = []; waiting = k.waiting }) refl (stands.order.none_waits stands.unbatched) in
         let sum : total_runs kept.files ≤ length (filter (λ (d : Draft). nat_le 0 d.ino) live) = all_runs live kept.files.overlays 0 few_at in
         omega (arith, free, counted, sum, fewer live (λ d. nat_le 0 d.ino));
   }

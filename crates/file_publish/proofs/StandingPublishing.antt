@@ -185,7 +185,7 @@ module _ (g : Geometry) (k : View) (t : Tables) (kept : Kept) (lines : Bool) (n 
       orders = each_mapped (λ run. ((inode v ino).applied < run.order) × (run.order ≤ 2 ^ 63)) run_of own low_order;
       room =
           let free = stands.flying.device.room.free in
-          let counted = unwaiting-counted (record { volume = k.volume; waiting = k.waiting }) (stands.order.none_waits stands.unbatched) in
+          let counted = unwaiting-counted (record { volume = k.volume; aside = []; waiting = k.waiting }) refl (stands.order.none_waits stands.unbatched) in
           omega (arith, free, counted, mapped_length run_of own, fewer live (λ d. d.ino == ino));
     }
 

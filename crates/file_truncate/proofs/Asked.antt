@@ -30,7 +30,7 @@ module _ (k : View) (t : Tables) (f : Files) (some : RunsInSome k t f) where
   pub reserve_there : reserve k.volume.geometry ≤ free_blocks_in k + 3
   reserve_there =
       let free = some.runs.flying.device.room.free in
-      omega (arith, free, unwaiting-counted (record { volume = k.volume; waiting = k.waiting }) (some.runs.order.none_waits some.runs.unbatched))
+      omega (arith, free, unwaiting-counted (record { volume = k.volume; aside = []; waiting = k.waiting }) refl (some.runs.order.none_waits some.runs.unbatched))
 
   module _ (who : Who) (h : Handle) (d : Description) (known : opened t who h ≡ Some d) where
     pub live_file : IsLiveFile d.node k.volume

@@ -154,8 +154,8 @@ module _ (ino size : ℕ) (run : Run) (runs : List Run) (k l : View) (order : Is
       arith,
       may.room,
       relink-takes_one m k l.volume gave.0 order unbatched moves gave.2.order.whole gave.1,
-      unwaiting-counted (record { volume = k.volume; waiting = k.waiting }) (order.none_waits unbatched),
-      unwaiting-counted (record { volume = l.volume; waiting = l.waiting }) (gave.2.order.none_waits (gave.2.batched ∙ unbatched)),
+      unwaiting-counted (record { volume = k.volume; aside = []; waiting = k.waiting }) refl (order.none_waits unbatched),
+      unwaiting-counted (record { volume = l.volume; aside = []; waiting = l.waiting }) refl (gave.2.order.none_waits (gave.2.batched ∙ unbatched)),
       ap reserve (geometry-same (is_free_in k) m k.volume l.volume gave.1.displaced order.whole moves gave.1.moved),
     );
   }

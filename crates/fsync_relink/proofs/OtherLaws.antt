@@ -36,8 +36,8 @@ module _ (ino size : ℕ) (run : Run) (runs : List Run) (k l : View) (on : GoesO
   one-taken = omega (
     arith,
     relink-takes_one m k l.volume gave.0 on.order on.unbatched moves gave.2.order.whole gave.1,
-    unwaiting-counted (record { volume = k.volume; waiting = k.waiting }) (on.order.none_waits on.unbatched),
-    unwaiting-counted (record { volume = l.volume; waiting = l.waiting }) (gave.2.order.none_waits (gave.2.batched ∙ on.unbatched)),
+    unwaiting-counted (record { volume = k.volume; aside = []; waiting = k.waiting }) refl (on.order.none_waits on.unbatched),
+    unwaiting-counted (record { volume = l.volume; aside = []; waiting = l.waiting }) refl (gave.2.order.none_waits (gave.2.batched ∙ on.unbatched)),
   )
 
   -- what a staging file has then it had there

@@ -1,5 +1,5 @@
 -- A file gets another length: its map has no more extents and blocks than before, so that no fewer blocks are free.
-use Rattle.std.proofs.Common.{◌≡◌, ◌≢◌, ◌≤◌, ◌<◌, ℕ, zero, suc, true, false, List, length, None, Ok, refl, sym, ◌∙◌, ap, subst, arith, inl, inr}
+use Rattle.std.proofs.Common.{◌≡◌, ◌≢◌, ◌≤◌, ◌<◌, ℕ, zero, suc, true, false, List, [], length, None, Ok, refl, sym, ◌∙◌, ap, subst, arith, inl, inr}
 use Rattle.std.specs.Prelude.{is_some, nat_lt}
 use Rattle.std.proofs.lemmas.Bool.{cases_eq, cases_lt}
 use Rattle.std.proofs.lemmas.Bool.Decides.{nat_tests}
@@ -121,8 +121,8 @@ module _ (ino size : ℕ) (k l : View) (on : GoesOn k) (file : IsLiveFile ino k.
   free-more = omega (
     arith,
     fewer-used,
-    unwaiting-counted (record { volume = k.volume; waiting = k.waiting }) (on.order.none_waits on.unbatched),
-    unwaiting-counted (record { volume = l.volume; waiting = l.waiting }) (gave.2.order.none_waits (gave.2.batched ∙ on.unbatched)),
+    unwaiting-counted (record { volume = k.volume; aside = []; waiting = k.waiting }) refl (on.order.none_waits on.unbatched),
+    unwaiting-counted (record { volume = l.volume; aside = []; waiting = l.waiting }) refl (gave.2.order.none_waits (gave.2.batched ∙ on.unbatched)),
   )
 
   pub keeps-sized : KeepsRest k l

@@ -174,7 +174,7 @@ module _ (k l m : View) (staging : Staged) (files : Files) (ino first count bloc
     present = present_then k l staging files ino first count block bare world to below unstaged fits m.cells m.volume blocks is done.order.whole asked;
     free =
         let sum = counted k l staging files ino first count block bare world to below unstaged fits m.cells m.volume blocks is done.order.whole asked in
-        let same : free_blocks_in m ≡ unused_blocks m.volume = unwaiting-counted (record { volume = m.volume; waiting = m.waiting }) (done.order.none_waits (done.batched ∙ off k l staging files ino first count block bare world to below unstaged fits)) in
+        let same : free_blocks_in m ≡ unused_blocks m.volume = unwaiting-counted (record { volume = m.volume; aside = []; waiting = m.waiting }) refl (done.order.none_waits (done.batched ∙ off k l staging files ino first count block bare world to below unstaged fits)) in
         omega (arith, sum, same);
     longer = longer_then k l staging files ino first count block bare world to below unstaged fits m.cells m.volume blocks is done.order.whole asked;
     owed = elim (cases_lt (block + bare) (first + count)) [ inl more ↦ inr (inl (out more)) | inr last ↦ inr (inr (omega (arith, last))) ];

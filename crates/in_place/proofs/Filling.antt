@@ -1,5 +1,5 @@
 -- Holes of a range are filled gap by gap: how far it came, and one gap more.
-use Rattle.std.specs.Prelude.{◌≡◌, ◌≢◌, ◌⊎◌, ◌≤◌, ◌<◌, ◌+◌, ◌*◌, ◌-◌, ◌==◌, ◌&&◌, ℕ, Bool, true, false, List, length, is_none, is_some, Option, Some, None, IsSome, refl}
+use Rattle.std.specs.Prelude.{◌≡◌, ◌≢◌, ◌⊎◌, ◌≤◌, ◌<◌, ◌+◌, ◌*◌, ◌-◌, ◌==◌, ◌&&◌, ℕ, Bool, true, false, List, [], length, is_none, is_some, Option, Some, None, IsSome, refl}
 use Rattle.std.specs.List.{list_any}
 use Rattle.std.proofs.Common.{arith, ap, ◌∙◌, sym, subst, inl, inr}
 use Rattle.std.proofs.lemmas.Bool.{cases_Bool, cases_eq, cases_lt}
@@ -281,7 +281,7 @@ module _ (k l : View) (staging : Staged) (files : Files) (ino first count block 
     ]
 
     free_is : free_blocks_in l ≡ unused_blocks l.volume
-    free_is = unwaiting-counted (record { volume = l.volume; waiting = l.waiting }) (order.none_waits off)
+    free_is = unwaiting-counted (record { volume = l.volume; aside = []; waiting = l.waiting }) refl (order.none_waits off)
 
     pub counted : unused_blocks w + absent_count k.volume files ino first count + chains_for (length (extents w ino))
         ≡ free_blocks_in k + chains_for (length (extents k.volume ino)) + absent_count k.volume files ino (block + bare + 1) (first + count - (block + bare + 1))

@@ -8,9 +8,10 @@ use Rattle.staging_files.specs.declared.runs.StageFault.{StageFault}
 use Rattle.staging_files.specs.declared.runs.StageRun.{StageRun}
 use Rattle.staging_files.specs.Keeps.{Agrees, Staged}
 
--- the power is on, the staging agrees with K-Split, and each word of the device has one candidate
+-- the power is on, changes do not gather in a batch, the staging agrees with K-Split, and each word of the device has one candidate
 pub record IsCalm (s : Staged) (k : View) : Type 0 where
   pub on : k.lost ≡ false
+  pub unbatched : k.batched ≡ false
   pub agrees : Agrees s k
   pub single : AllSingle k.cells
 

@@ -59,7 +59,7 @@ owed_more s run = length-append s.out (run ∷ [])
 
 module _ (g : Geometry) (k : View) (t : Tables) (kept : Kept) (lines : Bool) (n : ℕ) (s : State) (stands : StandsAt g k t kept lines n s) where
   free_is : free_blocks_in k ≡ unused_blocks k.volume
-  free_is = unwaiting-counted (record { volume = k.volume; waiting = k.waiting }) (stands.order.none_waits stands.unbatched)
+  free_is = unwaiting-counted (record { volume = k.volume; aside = []; waiting = k.waiting }) refl (stands.order.none_waits stands.unbatched)
 
   -- a run more is out, of blocks that were kept as free
   taken_on : (count : ℕ) (l : View) (staging : Staged) (taken : StageRun) → 1 ≤ count → IsTaken count kept.staging staging k l taken → StandsWithRun g k l t kept staging lines n s taken stands
@@ -195,7 +195,7 @@ module _ (g : Geometry) (k l : View) (t : Tables) (kept : Kept) (lines : Bool) (
   left = share-leaves kept.staging k l count x stands.order file_is stands.unbatched is.way.room is.given
 
   free_then : free_blocks_in l ≡ unused_blocks w
-  free_then = unwaiting-counted (record { volume = l.volume; waiting = l.waiting }) (done.order.none_waits off)
+  free_then = unwaiting-counted (record { volume = l.volume; aside = []; waiting = l.waiting }) refl (done.order.none_waits off)
 
   room : HasRoom w kept.claims stands.jobs s
   room = restaging.room g k t kept lines n s stands x size w is.given.0 file_is is.way.place.empty made done.order.whole (let owed = stands.owed in omega (arith, owed, left, free_then))
@@ -358,7 +358,7 @@ module _ (g : Geometry) (k l : View) (t : Tables) (kept : Kept) (lines : Bool) (
       room : HasRoom w kept.claims stands.jobs (run start history)
       room =
           let owed = stands.owed in
-          let counted = unwaiting-counted (record { volume = k.volume; waiting = k.waiting }) (stands.order.none_waits stands.unbatched) in
+          let counted = unwaiting-counted (record { volume = k.volume; aside = []; waiting = k.waiting }) refl (stands.order.none_waits stands.unbatched) in
           restaging.room g k t kept lines n (run start history) stands x (share kept.staging k count) w blocks file_is empty made cut.whole (omega (arith, owed, less, enough, counted))
 
 pub keeps_reserved : KeepsReserved

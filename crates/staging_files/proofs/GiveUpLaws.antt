@@ -102,6 +102,7 @@ staged-nothing = record {
 pub record HasGivenUp (n : ℕ) (k l : View) : Type 0 where
   pub gave : AreGivenUp n k l
   pub on : l.lost ≡ false
+  pub unbatched : l.batched ≡ false
   pub order : IsInOrder l
   pub single : AllStagedSingle l
   pub bare : AreBare n l
@@ -110,6 +111,7 @@ pub next-given : (n : ℕ) (k m l : View) → n < 4 → HasGivenUp n k m → IsG
 next-given n k m l few before answer = record {
   gave = (m, before.gave, answer);
   on = answer.2.kept_on;
+  unbatched = answer.2.batched ∙ before.unbatched;
   order = answer.2.order;
   single = still-single (suc n) m l before.order (record { least = omega arith; most = omega (arith, few) }) answer before.single;
   bare = bare-next n m l before.order few answer before.bare;

@@ -37,6 +37,7 @@ fn place_of(out: &[StageRun], run: &StageRun) -> Option<usize>
 // All staging files give up their blocks, one after the other.
 fn give_up_each(alloc: Global, k: &mut KSplit, power: &mut Power) -> Result<Commit, AllocError>
     requires awake { k.old.lost ≡ true → is_on power.old ≡ false }
+    requires unbatched { k.old.lost ≡ false → k.old.batched ≡ false }
     requires single { k.old.lost ≡ false → AllStagedSingle k.old }
     ensures steps { Steps (2 ^ 17) power.old power.new }
     ensures paid { IsGiveUpAllPaid power.new result }
@@ -72,7 +73,8 @@ impl Staging {
 
     /// All staging files give up their blocks, each as one transaction: no run is out then, and all
     /// four are empty and kept as such. Each word of their blocks has one candidate, so that none is
-    /// lent. `PowerLost` comes exactly where the power is off at the return.
+    /// lent; K-Split's changes do not gather in a batch. `PowerLost` comes exactly where the power is
+    /// off at the return.
     ///
     /// # Errors
     ///
@@ -89,6 +91,7 @@ impl Staging {
         power: &mut Power,
     ) -> Result<Commit, AllocError>
         requires awake { k.old.lost ≡ true → is_on power.old ≡ false }
+        requires unbatched { k.old.lost ≡ false → k.old.batched ≡ false }
         requires single { k.old.lost ≡ false → AllStagedSingle k.old }
         ensures steps { Steps (2 ^ 17) power.old power.new }
         ensures paid { IsGiveUpAllPaid power.new result }

@@ -135,6 +135,7 @@ impl Staging {
     ) -> Result<StageRun, StageFault>
         requires power { is_on power.old ≡ true }
         requires on { k.old.lost ≡ false }
+        requires unbatched { k.old.batched ≡ false }
         requires order { IsInOrder k.old }
         requires staging { IsStaging staging }
         requires empty { IsKeptEmpty self.old staging }
@@ -171,7 +172,7 @@ impl Staging {
     /// half of those that are free above `owed + R - 1` if these are more, but at most 64. At least
     /// `owed + R - 2` blocks are free then.
     ///
-    /// What the staging keeps agrees with K-Split.
+    /// What the staging keeps agrees with K-Split, whose changes do not gather in a batch.
     ///
     /// # Errors
     ///
@@ -189,6 +190,7 @@ impl Staging {
         power: &mut Power,
     ) -> Result<StageRun, StageFault>
         requires awake { k.old.lost ≡ true → is_on power.old ≡ false }
+        requires unbatched { k.old.lost ≡ false → k.old.batched ≡ false }
         requires agrees { k.old.lost ≡ false → Agrees self.old k.old }
         requires some { 1 ≤ count }
         requires most { count ≤ 33 }

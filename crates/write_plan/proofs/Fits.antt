@@ -1,5 +1,5 @@
 -- The first write finds its blocks.
-use Rattle.std.specs.Prelude.{◌≡◌, ◌≤◌, ◌<◌, ◌+◌, ◌-◌, ◌/◌, ℕ, nat_lt, Bool, true, false, length, max, min, Option, None, Some, is_some, sum_by, if◌then◌else◌, refl}
+use Rattle.std.specs.Prelude.{◌≡◌, ◌≤◌, ◌<◌, ◌+◌, ◌-◌, ◌/◌, ℕ, nat_lt, Bool, true, false, [], length, max, min, Option, None, Some, is_some, sum_by, if◌then◌else◌, refl}
 use Rattle.std.specs.Option.{option_map_or}
 use Rattle.std.proofs.Common.{arith, ap, ◌∙◌, sym, inl, inr}
 use Rattle.std.proofs.lemmas.Bool.{cases_Bool}
@@ -104,7 +104,7 @@ module _ (held : HeldIsTheSum) where
         first_run_fits k.volume (live_claims k.volume kept.claims) (journaled (words_of k.cells)) stands.numbers s kept.files mode size start len run (in_files g k t kept lines n s stands fresh ends)
         (leaves_kept g k t kept lines n s stands) room plan
         in
-        let unwaiting = unwaiting-counted (record { volume = k.volume; waiting = k.waiting }) (stands.order.none_waits stands.unbatched) in
+        let unwaiting = unwaiting-counted (record { volume = k.volume; aside = []; waiting = k.waiting }) refl (stands.order.none_waits stands.unbatched) in
         omega (arith, fits, unwaiting)
 
     needed : need kept.staging k run.1 ≤ free_blocks_in k
@@ -122,5 +122,5 @@ module _ (held : HeldIsTheSum) where
       first_holes_are_unused k.volume (live_claims k.volume kept.claims) (journaled (words_of k.cells)) stands.numbers s kept.files ino first count (in_files g k t kept lines n s stands fresh ends)
       (leaves_kept g k t kept lines n s stands) file within
       in
-      let unwaiting = unwaiting-counted (record { volume = k.volume; waiting = k.waiting }) (stands.order.none_waits stands.unbatched) in
+      let unwaiting = unwaiting-counted (record { volume = k.volume; aside = []; waiting = k.waiting }) refl (stands.order.none_waits stands.unbatched) in
       omega (arith, unused, unwaiting)

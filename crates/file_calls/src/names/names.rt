@@ -21,7 +21,7 @@ use pm_lines::Power;
 use posix_types::{Path, Reply};
 use std::alloc::Global;
 
-/// Makes a directory. The path is spelled.
+/// Makes a directory. The path is spelled, and changes do not gather in a batch.
 pub fn mkdir(
     alloc: Global,
     k: &mut KSplit,
@@ -29,6 +29,7 @@ pub fn mkdir(
     power: &mut Power,
 ) -> Result<Told, NoMemory>
     requires on { k.old.lost ≡ false }
+    requires unbatched { k.old.batched ≡ false }
     requires spelled { AreSpelled path.now }
     ensures steps { Steps 256 power.old power.new }
     ensures ended { (who : Who) (t : Tables) (f : Files)
@@ -42,9 +43,10 @@ pub fn mkdir(
     }
 }
 
-/// Removes an empty directory.
+/// Removes an empty directory. Changes do not gather in a batch.
 pub fn rmdir(k: &mut KSplit, path: &Path, power: &mut Power) -> Result<Told, NoMemory>
     requires on { k.old.lost ≡ false }
+    requires unbatched { k.old.batched ≡ false }
     ensures steps { Steps 256 power.old power.new }
     ensures ended { (who : Who) (t : Tables) (f : Files)
         → IsEnded who (Call.Rmdir path.now) k.old t f k.new t f power.old power.new result }
@@ -67,6 +69,7 @@ pub(crate) fn sweep(
     power: &mut Power,
 ) -> Told
     requires on { k.old.lost ≡ false }
+    requires unbatched { k.old.batched ≡ false }
     requires file { IsFileOf ino k.old.volume }
     requires line { ino < length data.old.sizes }
     ensures steps { Steps 256 power.old power.new }

@@ -182,6 +182,7 @@ fn open_missing(
 ) -> Result<Told, NoMemory>
     requires spelled { AreSpelled path.now }
     requires on { k.old.lost ≡ false }
+    requires unbatched { k.old.batched ≡ false }
     requires missing { IsMissing k.old.volume path.now }
     requires power { is_on power.old ≡ true }
     ensures steps { Steps 256 power.old power.new }

@@ -47,6 +47,7 @@ fn set_now(
     power: &mut Power,
 ) -> Result<Truncated, NoMemory>
     requires on { k.old.lost ≡ false }
+    requires unbatched { k.old.batched ≡ false }
     requires file { IsLiveFile ino k.old.volume }
     requires size { size ≤ LONGEST_FILE }
     requires room { reserve k.old.volume.geometry ≤ free_blocks_in k.old + 3 }
@@ -75,6 +76,7 @@ pub(crate) fn give_size(
     power: &mut Power,
 ) -> Result<Truncated, NoMemory>
     requires on { k.old.lost ≡ false }
+    requires unbatched { k.old.batched ≡ false }
     requires power { is_on power.old ≡ true }
     requires file { IsLiveFile ino k.old.volume }
     requires size { size ≤ LONGEST_FILE }

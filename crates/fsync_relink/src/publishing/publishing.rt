@@ -76,6 +76,7 @@ fn resize(
 ) -> Result<Commit, AllocError>
     requires power { is_on power.old ≡ true }
     requires on { k.old.lost ≡ false }
+    requires unbatched { k.old.batched ≡ false }
     requires file { IsLiveFile ino k.old.volume }
     requires size { size ≤ LONGEST_FILE }
     requires room { reserve k.old.volume.geometry ≤ free_blocks_in k.old + 3 }

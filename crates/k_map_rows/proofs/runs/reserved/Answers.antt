@@ -11,3 +11,6 @@ reserve-requires-clause-agrees c on = c.requires.calm.agrees
 pub returns : goal.returns
 returns c =
     calm-after c.args.count c.args.staging.now c.reserve.new.self c.args.k.now c.reserve.new.k c.reserve.result c.requires.calm c.reserve.ensures.answer c.reserve.ensures.agrees
+
+pub reserve-requires-clause-unbatched : goal.reserve-requires-clause-unbatched
+reserve-requires-clause-unbatched c on = c.requires.calm.unbatched

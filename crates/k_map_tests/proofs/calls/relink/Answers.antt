@@ -5,4 +5,4 @@ use Rattle.k_map_tests.proofs.calls.relink.Goals as goal
 pub returns : goal.returns
 returns c =
     c.reply_of.ensures c.relink.new.self
-    (map-left (λ w blocks. IsMovedWith c.args.asked.now c.args.k.now w blocks) c.args.k.now c.relink.new.self c.relink.result c.relink.ensures.answer c.requires)
+    (map-left (λ w blocks. IsMovedWith c.args.asked.now c.args.k.now w blocks) c.args.k.now c.relink.new.self c.relink.result (c.relink.ensures.answer c.requires.unbatched) c.requires)

@@ -26,7 +26,7 @@ returns-then-is_lost-clause-answer c = record {
 pub loop-staging-init : goal.loop-staging-init
 loop-staging-init c =
     let on : c.args.k.now.lost ≡ false = sym c.is_lost.ensures.lost ∙ c.if-is_lost.false in (
-      record { gave = refl; on = on; order = c.is_lost.ensures.order on; single = c.requires.single on; bare = none-bare c.args.k.now },
+      record { gave = refl; on = on; unbatched = c.requires.unbatched on; order = c.is_lost.ensures.order on; single = c.requires.single on; bare = none-bare c.args.k.now },
       no-steps 0 c.args.power.now,
       λ two. absurd (omega (arith, two)),
     )
@@ -49,14 +49,14 @@ returns-in-Err-clause-steps c =
 pub returns-in-Err-clause-paid : goal.returns-in-Err-clause-paid
 returns-in-Err-clause-paid c =
     subst (IsGiveUpAllPaid c.give_up.new.power) (sym c.stopped_by.ensures)
-    (stopped-paid c.loop-staging.staging c.loop-staging.k c.give_up.new.self c.loop-staging.power c.give_up.new.power c.in-Err.fault c.in-Err.ensures.answer c.in-Err.ensures.paid)
+    (stopped-paid c.loop-staging.staging c.loop-staging.k c.give_up.new.self c.loop-staging.power c.give_up.new.power c.in-Err.fault (c.in-Err.ensures.answer c.loop-staging.invariant.0.unbatched) c.in-Err.ensures.paid)
 
 pub returns-in-Err-clause-answer : goal.returns-in-Err-clause-answer
 returns-in-Err-clause-answer c =
     let same : c.loop-staging.staging ≡ suc (c.loop-staging.staging - 1) = omega (arith, c.loop-staging.auto.staging) in
     subst (IsGivenUpEach c.args.k.now c.give_up.new.self) (sym c.stopped_by.ensures)
     (stopped-answer c.in-Err.fault (c.loop-staging.staging - 1) c.args.k.now c.loop-staging.k c.give_up.new.self (omega arith) c.loop-staging.invariant.0.gave
-    (subst (λ n. IsGiveUpAnswer n c.loop-staging.k c.give_up.new.self (Err c.in-Err.fault)) same c.in-Err.ensures.answer))
+    (subst (λ n. IsGiveUpAnswer n c.loop-staging.k c.give_up.new.self (Err c.in-Err.fault)) same (c.in-Err.ensures.answer c.loop-staging.invariant.0.unbatched)))
 
 pub loop-staging-preserved : goal.loop-staging-preserved
 loop-staging-preserved c =
@@ -65,7 +65,7 @@ loop-staging-preserved c =
     let steps : 32768 * (c.loop-staging.staging - 1) + 32768 ≡ 32768 * (c.loop-staging.staging + 1 - 1) = omega (arith, c.loop-staging.auto.staging) in (
       subst (λ n. HasGivenUp n c.args.k.now c.give_up.new.self) next
           (next-given (c.loop-staging.staging - 1) c.args.k.now c.loop-staging.k c.give_up.new.self (omega arith) c.loop-staging.invariant.0
-          (subst (λ n. IsGiveUpAnswer n c.loop-staging.k c.give_up.new.self (Ok tt)) same c.in-Ok.ensures.answer)),
+          (subst (λ n. IsGiveUpAnswer n c.loop-staging.k c.give_up.new.self (Ok tt)) same (c.in-Ok.ensures.answer c.loop-staging.invariant.0.unbatched))),
       subst (λ n. Steps n c.args.power.now c.give_up.new.power) steps
           (Steps-then (32768 * (c.loop-staging.staging - 1)) 32768 c.args.power.now c.loop-staging.power c.give_up.new.power c.loop-staging.invariant.1 c.in-Ok.ensures.steps),
       λ two. c.in-Ok.ensures.paid.0,

@@ -79,3 +79,9 @@ returns-in-Mkdir-clause-ends c = c.mkdir.ensures.ends c.args.files.now.tables c.
 
 pub returns-in-Rmdir-clause-ends : goal.returns-in-Rmdir-clause-ends
 returns-in-Rmdir-clause-ends c = c.rmdir.ensures.ends c.args.data.now
+
+pub mkdir-requires-clause-unbatched : goal.mkdir-requires-clause-unbatched
+mkdir-requires-clause-unbatched c = c.requires.runs.runs.unbatched
+
+pub rmdir-requires-clause-unbatched : goal.rmdir-requires-clause-unbatched
+rmdir-requires-clause-unbatched c = c.requires.runs.runs.unbatched

@@ -11,16 +11,16 @@ use Rattle.file_calls.proofs.names.names.mkdir.Goals as goal
 pub returns-in-Ok-clause-ended : goal.returns-in-Ok-clause-ended
 returns-in-Ok-clause-ended c who t f =
     subst (λ x. IsEnded who (Call.Mkdir c.args.path.now) c.args.k.now t f c.make.new.self t f c.args.power.now c.make.new.power (Ok x)) (sym c.answered.ensures)
-    (mkdir_done who c.args.path.now c.args.k.now c.make.new.self t f c.args.power.now c.make.new.power c.requires.spelled c.in-Ok.field-0 (c.in-Ok.ensures.answer, c.in-Ok.ensures.paid))
+    (mkdir_done who c.args.path.now c.args.k.now c.make.new.self t f c.args.power.now c.make.new.power c.requires.spelled c.in-Ok.field-0 (c.in-Ok.ensures.answer c.requires.unbatched, c.in-Ok.ensures.paid))
 
 pub returns-in-Err-clause-ended : goal.returns-in-Err-clause-ended
 returns-in-Err-clause-ended c who t f =
     subst (λ x. IsEnded who (Call.Mkdir c.args.path.now) c.args.k.now t f c.make.new.self t f c.args.power.now c.make.new.power x) (sym c.after_fault.ensures)
-    (mkdir_fault who c.args.path.now c.args.k.now c.make.new.self t f c.args.power.now c.make.new.power c.requires.spelled c.in-Err.fault (c.in-Err.ensures.answer, c.in-Err.ensures.paid))
+    (mkdir_fault who c.args.path.now c.args.k.now c.make.new.self t f c.args.power.now c.make.new.power c.requires.spelled c.in-Err.fault (c.in-Err.ensures.answer c.requires.unbatched, c.in-Err.ensures.paid))
 
 pub returns-in-Ok-clause-ends : goal.returns-in-Ok-clause-ends
-returns-in-Ok-clause-ends c t f some = make_ends true c.args.path.now c.args.k.now c.make.new.self t f c.make.new.power c.in-Ok.field-0 some c.in-Ok.ensures.answer
+returns-in-Ok-clause-ends c t f some = make_ends true c.args.path.now c.args.k.now c.make.new.self t f c.make.new.power c.in-Ok.field-0 some (c.in-Ok.ensures.answer c.requires.unbatched)
 
 pub returns-in-Err-clause-ends : goal.returns-in-Err-clause-ends
 returns-in-Err-clause-ends c t f some =
-    fault_ends (make_row c.args.path.now c.args.k.now) (λ ino w. IsMade true c.args.path.now c.args.k.now.volume w ino) c.args.k.now c.make.new.self f c.args.power.now c.make.new.power c.in-Err.fault (c.in-Err.ensures.answer, c.in-Err.ensures.paid)
+    fault_ends (make_row c.args.path.now c.args.k.now) (λ ino w. IsMade true c.args.path.now c.args.k.now.volume w ino) c.args.k.now c.make.new.self f c.args.power.now c.make.new.power c.in-Err.fault (c.in-Err.ensures.answer c.requires.unbatched, c.in-Err.ensures.paid)

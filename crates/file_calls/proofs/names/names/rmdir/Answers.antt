@@ -11,16 +11,16 @@ use Rattle.file_calls.proofs.names.names.rmdir.Goals as goal
 pub returns-in-Ok-clause-ended : goal.returns-in-Ok-clause-ended
 returns-in-Ok-clause-ended c who t f =
     subst (λ x. IsEnded who (Call.Rmdir c.args.path.now) c.args.k.now t f c.rmdir.new.self t f c.args.power.now c.rmdir.new.power (Ok x)) (sym c.answered.ensures)
-    (rmdir_done who c.args.path.now c.args.k.now c.rmdir.new.self t f c.args.power.now c.rmdir.new.power (c.in-Ok.ensures.answer, c.in-Ok.ensures.paid))
+    (rmdir_done who c.args.path.now c.args.k.now c.rmdir.new.self t f c.args.power.now c.rmdir.new.power (c.in-Ok.ensures.answer c.requires.unbatched, c.in-Ok.ensures.paid))
 
 pub returns-in-Err-clause-ended : goal.returns-in-Err-clause-ended
 returns-in-Err-clause-ended c who t f =
     subst (λ x. IsEnded who (Call.Rmdir c.args.path.now) c.args.k.now t f c.rmdir.new.self t f c.args.power.now c.rmdir.new.power x) (sym c.after_fault.ensures)
-    (rmdir_fault who c.args.path.now c.args.k.now c.rmdir.new.self t f c.args.power.now c.rmdir.new.power c.in-Err.fault (c.in-Err.ensures.answer, c.in-Err.ensures.paid))
+    (rmdir_fault who c.args.path.now c.args.k.now c.rmdir.new.self t f c.args.power.now c.rmdir.new.power c.in-Err.fault (c.in-Err.ensures.answer c.requires.unbatched, c.in-Err.ensures.paid))
 
 pub returns-in-Ok-clause-ends : goal.returns-in-Ok-clause-ends
-returns-in-Ok-clause-ends c f = rmdir_ends c.args.path.now c.args.k.now c.rmdir.new.self f c.rmdir.new.power c.in-Ok.ensures.answer
+returns-in-Ok-clause-ends c f = rmdir_ends c.args.path.now c.args.k.now c.rmdir.new.self f c.rmdir.new.power (c.in-Ok.ensures.answer c.requires.unbatched)
 
 pub returns-in-Err-clause-ends : goal.returns-in-Err-clause-ends
 returns-in-Err-clause-ends c f =
-    fault_ends (rmdir_row c.args.path.now c.args.k.now) (λ done w. IsRemoved c.args.path.now c.args.k.now.volume w) c.args.k.now c.rmdir.new.self f c.args.power.now c.rmdir.new.power c.in-Err.fault (c.in-Err.ensures.answer, c.in-Err.ensures.paid)
+    fault_ends (rmdir_row c.args.path.now c.args.k.now) (λ done w. IsRemoved c.args.path.now c.args.k.now.volume w) c.args.k.now c.rmdir.new.self f c.args.power.now c.rmdir.new.power c.in-Err.fault (c.in-Err.ensures.answer c.requires.unbatched, c.in-Err.ensures.paid)

@@ -71,7 +71,7 @@ returns-in-Ok-clause-ended c =
     (goes_too c.args.who (Call.Close c.args.handle) k k t t2 f (answer Reply.Ok) c.in-Some.opened.ino c.args.power.now c.args.power.now half
     (close_replies c.args.who c.args.handle k t t2 f (description_in c.in-Some.opened) known c.close.ensures.tables)
     (close_spent c.args.who c.args.handle k t t2 f (description_in c.in-Some.opened) known c.close.ensures.tables c.args.power.now c.args.power.now) c.requires.power (λ s. refl) (loans_same k) c.drop_node.new.self c.clear.new.self c.drop_node.new.power
-    (no_name c.named.result _ c.named.ensures c.if-named.false) shut c.clear.ensures.file c.clear.ensures.spare c.drop_node.ensures.steps (c.in-Ok.ensures.answer, c.in-Ok.ensures.paid))
+    (no_name c.named.result _ c.named.ensures c.if-named.false) shut c.clear.ensures.file c.clear.ensures.spare c.drop_node.ensures.steps (c.in-Ok.ensures.answer c.requires.runs.runs.unbatched, c.in-Ok.ensures.paid))
 
 pub returns-in-Err-clause-ended : goal.returns-in-Err-clause-ended
 returns-in-Err-clause-ended c =
@@ -82,7 +82,7 @@ returns-in-Err-clause-ended c =
     let known = c.find.ensures.description ∙ ap (option_map description_in) c.in-Some.is in
     let shut = sym c.is_open.ensures ∙ c.if-is_open.false in
     let half = close_half c.args.who c.args.handle k t t2 f (description_in c.in-Some.opened) known c.close.ensures.tables (no_name c.named.result _ c.named.ensures c.if-named.false) shut in
-    let fault = drop_fault k c.drop_node.new.self c.in-Some.opened.ino c.args.power.now c.drop_node.new.power c.in-Err.field-0 c.in-Err.ensures.memory (c.in-Err.ensures.answer, c.in-Err.ensures.paid) in
+    let fault = drop_fault k c.drop_node.new.self c.in-Some.opened.ino c.args.power.now c.drop_node.new.power c.in-Err.field-0 c.in-Err.ensures.memory (c.in-Err.ensures.answer c.requires.runs.runs.unbatched, c.in-Err.ensures.paid) in
     goes_lost c.args.who (Call.Close c.args.handle) k k t t2 f (answer Reply.Ok) c.in-Some.opened.ino c.args.power.now c.args.power.now half
     (close_replies c.args.who c.args.handle k t t2 f (description_in c.in-Some.opened) known c.close.ensures.tables)
     (close_spent c.args.who c.args.handle k t t2 f (description_in c.in-Some.opened) known c.close.ensures.tables c.args.power.now c.args.power.now) c.requires.power (λ s. refl) (loans_same k) c.drop_node.new.self t2 f c.drop_node.new.power
@@ -94,9 +94,9 @@ returns-in-Ok-clause-ends c =
     let file : (inode c.args.k.now.volume c.in-Some.opened.ino).kind ≡ File =
     c.requires.runs.runs.open_are_files c.in-Some.opened.ino (handle_open c.args.files.now.tables c.args.who c.args.handle (description_in c.in-Some.opened) known)
     in
-    drop_ends c.in-Some.opened.ino c.args.k.now c.drop_node.new.self c.args.data.now c.clear.new.self c.drop_node.new.power (used_below c.args.k.now.volume c.in-Some.opened.ino (ap is_used file)) c.in-Ok.ensures.answer c.clear.ensures.file
+    drop_ends c.in-Some.opened.ino c.args.k.now c.drop_node.new.self c.args.data.now c.clear.new.self c.drop_node.new.power (used_below c.args.k.now.volume c.in-Some.opened.ino (ap is_used file)) (c.in-Ok.ensures.answer c.requires.runs.runs.unbatched) c.clear.ensures.file
 
 pub returns-in-Err-clause-ends : goal.returns-in-Err-clause-ends
 returns-in-Err-clause-ends c on =
-    let fault = drop_fault c.args.k.now c.drop_node.new.self c.in-Some.opened.ino c.args.power.now c.drop_node.new.power c.in-Err.field-0 c.in-Err.ensures.memory (c.in-Err.ensures.answer, c.in-Err.ensures.paid) in
+    let fault = drop_fault c.args.k.now c.drop_node.new.self c.in-Some.opened.ino c.args.power.now c.drop_node.new.power c.in-Err.field-0 c.in-Err.ensures.memory (c.in-Err.ensures.answer c.requires.runs.runs.unbatched, c.in-Err.ensures.paid) in
     absurd (off_on c.drop_node.new.power fault.1 on)

@@ -21,3 +21,6 @@ returns-in-Ok-directory_of-clause-ended c = c.open_missing.ensures.ended c.args.
 
 pub returns-in-Ok-directory_of-clause-ends : goal.returns-in-Ok-directory_of-clause-ends
 returns-in-Ok-directory_of-clause-ends c = c.open_missing.ensures.ends c.args.data.now c.requires.runs
+
+pub open_missing-requires-clause-unbatched : goal.open_missing-requires-clause-unbatched
+open_missing-requires-clause-unbatched c = c.requires.runs.runs.unbatched

@@ -40,7 +40,7 @@ returns-in-Ok-open-clause-ended c =
     in
     subst (λ x. IsEnded c.args.who (Call.Open c.args.handle c.args.path.now c.args.flags) c.args.k.now t c.args.data.now c.set_size.new.self c.open.new.self.tables c.clear.new.self c.args.power.now c.set_size.new.power (Ok x)) (sym c.answered-in-Ok-open.ensures)
     (cut_ended c.args.who c.args.handle c.args.path.now c.args.flags c.args.k.now t c.args.data.now c.args.ino c.requires.runs.runs.order.whole c.requires.found c.requires.file c.requires.cuts c.requires.bare none c.set_size.new.self c.open.new.self.tables
-    c.clear.new.self c.in-Ok-open.descriptor c.args.power.now c.set_size.new.power (c.in-Ok-set_size.ensures.answer, c.in-Ok-set_size.ensures.paid) free opened c.clear.ensures.file c.clear.ensures.spare c.requires.runs.runs.sizes.count)
+    c.clear.new.self c.in-Ok-open.descriptor c.args.power.now c.set_size.new.power (c.in-Ok-set_size.ensures.answer c.requires.runs.runs.unbatched, c.in-Ok-set_size.ensures.paid) free opened c.clear.ensures.file c.clear.ensures.spare c.requires.runs.runs.sizes.count)
 
 pub returns-in-Err-clause-ended : goal.returns-in-Err-clause-ended
 returns-in-Err-clause-ended c =
@@ -51,11 +51,11 @@ returns-in-Err-clause-ended c =
     subst (λ x. IsEnded c.args.who (Call.Open c.args.handle c.args.path.now c.args.flags) c.args.k.now t c.args.data.now c.set_size.new.self c.reserve.new.self.tables c.args.data.now c.args.power.now c.set_size.new.power x) (sym c.after_fault.ensures)
     (subst (λ x. IsEnded c.args.who (Call.Open c.args.handle c.args.path.now c.args.flags) c.args.k.now t c.args.data.now c.set_size.new.self x c.args.data.now c.args.power.now c.set_size.new.power (told_of c.in-Err.fault)) (sym c.reserve.ensures.tables)
     (cut_fault c.args.who c.args.handle c.args.path.now c.args.flags c.args.k.now t c.args.data.now c.args.ino c.requires.runs.runs.order.whole c.requires.found c.requires.file c.requires.cuts c.requires.bare none c.set_size.new.self c.args.power.now c.set_size.new.power c.in-Err.fault
-    (c.in-Err.ensures.answer, c.in-Err.ensures.paid)))
+    (c.in-Err.ensures.answer c.requires.runs.runs.unbatched, c.in-Err.ensures.paid)))
 
 pub returns-in-Ok-open-clause-ends : goal.returns-in-Ok-open-clause-ends
 returns-in-Ok-open-clause-ends c =
-    cut_ends c.args.ino c.args.k.now c.set_size.new.self c.args.files.now.tables c.args.data.now c.clear.new.self c.set_size.new.power c.requires.runs (used_below c.args.k.now.volume c.args.ino (ap is_used c.requires.file)) c.in-Ok-set_size.ensures.answer c.clear.ensures.file
+    cut_ends c.args.ino c.args.k.now c.set_size.new.self c.args.files.now.tables c.args.data.now c.clear.new.self c.set_size.new.power c.requires.runs (used_below c.args.k.now.volume c.args.ino (ap is_used c.requires.file)) (c.in-Ok-set_size.ensures.answer c.requires.runs.runs.unbatched) c.clear.ensures.file
 
 pub returns-in-Err-clause-ends : goal.returns-in-Err-clause-ends
-returns-in-Err-clause-ends c = size_fault_ends c.args.ino 0 c.args.k.now c.set_size.new.self c.args.data.now c.args.power.now c.set_size.new.power c.in-Err.fault (c.in-Err.ensures.answer, c.in-Err.ensures.paid)
+returns-in-Err-clause-ends c = size_fault_ends c.args.ino 0 c.args.k.now c.set_size.new.self c.args.data.now c.args.power.now c.set_size.new.power c.in-Err.fault (c.in-Err.ensures.answer c.requires.runs.runs.unbatched, c.in-Err.ensures.paid)

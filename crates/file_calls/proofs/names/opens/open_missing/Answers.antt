@@ -28,7 +28,7 @@ returns-in-Ok-open-clause-ended c f =
     let opened = c.in-Ok-open.ensures.ok ∙ ap (λ x. with_opened x c.args.who c.args.handle (opening_of c.in-Ok.ino c.args.flags)) c.reserve.ensures.tables in
     subst (λ x. IsEnded c.args.who (Call.Open c.args.handle c.args.path.now c.args.flags) c.args.k.now t f c.make.new.self c.open.new.self.tables f c.args.power.now c.make.new.power (Ok x)) (sym c.answered-in-Ok-open.ensures)
     (created_ended c.args.who c.args.handle c.args.path.now c.args.flags c.args.k.now t f c.requires.spelled c.requires.missing (set_flag c.args.flags.create c.if-not-flags.false) (sym c.is_full.ensures ∙ c.if-is_full.false)
-    c.make.new.self c.open.new.self.tables c.in-Ok.ino c.in-Ok-open.descriptor c.args.power.now c.make.new.power (c.in-Ok.ensures.answer, c.in-Ok.ensures.paid) free opened)
+    c.make.new.self c.open.new.self.tables c.in-Ok.ino c.in-Ok-open.descriptor c.args.power.now c.make.new.power (c.in-Ok.ensures.answer c.requires.unbatched, c.in-Ok.ensures.paid) free opened)
 
 pub returns-in-Err-clause-ended : goal.returns-in-Err-clause-ended
 returns-in-Err-clause-ended c f =
@@ -36,11 +36,11 @@ returns-in-Err-clause-ended c f =
     subst (λ x. IsEnded c.args.who (Call.Open c.args.handle c.args.path.now c.args.flags) c.args.k.now t f c.make.new.self c.reserve.new.self.tables f c.args.power.now c.make.new.power x) (sym c.after_fault.ensures)
     (subst (λ x. IsEnded c.args.who (Call.Open c.args.handle c.args.path.now c.args.flags) c.args.k.now t f c.make.new.self x f c.args.power.now c.make.new.power (told_of c.in-Err.fault)) (sym c.reserve.ensures.tables)
     (created_fault c.args.who c.args.handle c.args.path.now c.args.flags c.args.k.now t f c.requires.spelled c.requires.missing (set_flag c.args.flags.create c.if-not-flags.false) (sym c.is_full.ensures ∙ c.if-is_full.false)
-    c.make.new.self c.args.power.now c.make.new.power c.in-Err.fault (c.in-Err.ensures.answer, c.in-Err.ensures.paid)))
+    c.make.new.self c.args.power.now c.make.new.power c.in-Err.fault (c.in-Err.ensures.answer c.requires.unbatched, c.in-Err.ensures.paid)))
 
 pub returns-in-Ok-open-clause-ends : goal.returns-in-Ok-open-clause-ends
-returns-in-Ok-open-clause-ends c f some = make_ends false c.args.path.now c.args.k.now c.make.new.self c.args.files.now.tables f c.make.new.power c.in-Ok.ino some c.in-Ok.ensures.answer
+returns-in-Ok-open-clause-ends c f some = make_ends false c.args.path.now c.args.k.now c.make.new.self c.args.files.now.tables f c.make.new.power c.in-Ok.ino some (c.in-Ok.ensures.answer c.requires.unbatched)
 
 pub returns-in-Err-clause-ends : goal.returns-in-Err-clause-ends
 returns-in-Err-clause-ends c f some =
-    fault_ends (make_row c.args.path.now c.args.k.now) (λ ino w. IsMade false c.args.path.now c.args.k.now.volume w ino) c.args.k.now c.make.new.self f c.args.power.now c.make.new.power c.in-Err.fault (c.in-Err.ensures.answer, c.in-Err.ensures.paid)
+    fault_ends (make_row c.args.path.now c.args.k.now) (λ ino w. IsMade false c.args.path.now c.args.k.now.volume w ino) c.args.k.now c.make.new.self f c.args.power.now c.make.new.power c.in-Err.fault (c.in-Err.ensures.answer c.requires.unbatched, c.in-Err.ensures.paid)

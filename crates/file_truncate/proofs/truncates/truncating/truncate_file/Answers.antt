@@ -95,3 +95,6 @@ returns-in-Goes-clause-ends c on =
     (line_there c.args.k.now c.args.files.now.tables c.args.data.now c.requires.runs c.args.who c.args.handle (description_in c.in-Some.opened) known) c.requires.runs.runs.order.whole c.give_size.result c.give_size.ensures.paid c.give_size.ensures.answer on
     in
     (given.0, λ ends. given.1)
+
+pub give_size-requires-clause-unbatched : goal.give_size-requires-clause-unbatched
+give_size-requires-clause-unbatched c = c.requires.runs.runs.unbatched

@@ -45,7 +45,7 @@ returns-in-Err-clause-paid c =
     let is = move-is c.args.ino c.args.size c.length_then-then.result c.loop-place.place _ c.args.runs.now c.loop-place.k c.move_of.result c.length_then-then.ensures c.move_of.ensures in
     subst (IsPublishPaid c.relink.new.power) (sym c.stopped_by.ensures)
     (way-stops-paid c.args.ino c.args.size _ (drop (c.loop-place.place + 1) c.args.runs.now) c.loop-place.k c.relink.new.self c.loop-place.power c.relink.new.power c.in-Err.fault
-    (subst (λ m. IsRelinkAnswer m c.loop-place.k c.relink.new.self (Err c.in-Err.fault)) is c.in-Err.ensures.answer) c.in-Err.ensures.paid)
+    (subst (λ m. IsRelinkAnswer m c.loop-place.k c.relink.new.self (Err c.in-Err.fault)) is (c.in-Err.ensures.answer c.loop-place.invariant.0.unbatched)) c.in-Err.ensures.paid)
 
 pub returns-in-Err-clause-answer : goal.returns-in-Err-clause-answer
 returns-in-Err-clause-answer c =
@@ -53,14 +53,14 @@ returns-in-Err-clause-answer c =
     let is = move-is c.args.ino c.args.size c.length_then-then.result c.loop-place.place _ c.args.runs.now c.loop-place.k c.move_of.result c.length_then-then.ensures c.move_of.ensures in
     subst (IsRelinkedEach c.args.ino c.args.size c.args.runs.now c.args.k.now c.relink.new.self) (sym c.stopped_by.ensures)
     (way-stops c.args.ino c.args.size c.args.runs.now _ (drop (c.loop-place.place + 1) c.args.runs.now) c.args.k.now c.loop-place.k c.relink.new.self c.in-Err.fault way
-    (subst (λ m. IsRelinkAnswer m c.loop-place.k c.relink.new.self (Err c.in-Err.fault)) is c.in-Err.ensures.answer))
+    (subst (λ m. IsRelinkAnswer m c.loop-place.k c.relink.new.self (Err c.in-Err.fault)) is (c.in-Err.ensures.answer c.loop-place.invariant.0.unbatched)))
 
 pub loop-place-preserved : goal.loop-place-preserved
 loop-place-preserved c =
     let way = way-at c.args.ino c.args.size c.args.runs.now c.loop-place.place _ _ c.args.k.now c.loop-place.k c.loop-place-test.true refl c.loop-place.invariant.0 in
     let is = move-is c.args.ino c.args.size c.length_then-then.result c.loop-place.place _ c.args.runs.now c.loop-place.k c.move_of.result c.length_then-then.ensures c.move_of.ensures in (
       way-goes_on c.args.ino c.args.size c.args.runs.now _ (drop (c.loop-place.place + 1) c.args.runs.now) c.args.k.now c.loop-place.k c.relink.new.self way
-          (subst (λ m. IsRelinkAnswer m c.loop-place.k c.relink.new.self (Ok tt)) is c.in-Ok.ensures.answer),
+          (subst (λ m. IsRelinkAnswer m c.loop-place.k c.relink.new.self (Ok tt)) is (c.in-Ok.ensures.answer c.loop-place.invariant.0.unbatched)),
       steps-on c.loop-place.place c.args.power.now c.loop-place.power c.relink.new.power c.loop-place.invariant.1 c.in-Ok.ensures.steps,
       c.in-Ok.ensures.paid.0,
     )

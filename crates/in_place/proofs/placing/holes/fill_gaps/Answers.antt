@@ -7,7 +7,7 @@ use Rattle.live_step_laws.specs.k_split.declared.faults.KFault.{KFault}
 use Rattle.live_step_laws.specs.k_split.Filling.{fill_row, IsFillAnswer}
 use Rattle.in_place.specs.Holes.{FillsSome, IsUnstaged}
 use Rattle.in_place.proofs.Entries.{blocks_fit, line_there}
-use Rattle.in_place.proofs.Filling.{below_inodes, file, filled_none, gap_fits, IsFilledTo, on, steps_to}
+use Rattle.in_place.proofs.Filling.{below_inodes, file, filled_none, gap_fits, IsFilledTo, off, on, steps_to}
 use Rattle.in_place.proofs.Filled.{fills_on, has_room, loses_on, off_on, range_filled, some_filled, steps_all, steps_at_end, steps_start}
 use Rattle.in_place.proofs.placing.holes.fill_gaps.Goals as goal
 
@@ -48,12 +48,24 @@ unreachable-requires-in-Err-Room c =
     let bare = c.unstaged_from-bare.result in
     let below : block < c.args.first + c.args.count = omega arith in
     let unstaged = subst (λ (runs : List Run). IsUnstaged runs block (c.args.first + c.args.count) bare) c.overlay.ensures c.unstaged_from-bare.ensures in
-    let answer = subst (λ (fault : KFault). IsFillAnswer c.args.ino block bare l c.fill_holes.new.self (Err fault)) c.in-Err-Room.field-0-is c.in-Err-Room.ensures.answer in
+    let fits : c.args.first + c.args.count ≤ 4096 = (let all = blocks_fit k staging files c.args.ino c.requires.has in let range = c.requires.range in omega (arith, all, range)) in
+    let unbatched = off k l staging files c.args.ino c.args.first c.args.count block bare c.requires.has c.loop-block.invariant.to below unstaged fits in
+    let answer = subst (λ (fault : KFault). IsFillAnswer c.args.ino block bare l c.fill_holes.new.self (Err fault)) c.in-Err-Room.field-0-is (c.in-Err-Room.ensures.answer unbatched) in
     has_room k l c.fill_holes.new.self staging files c.args.ino c.args.first c.args.count block bare c.requires.has c.loop-block.invariant.to below unstaged c.requires.range c.requires.few c.requires.room _ answer.0
 
 pub unreachable-requires : goal.unreachable-requires
 unreachable-requires c =
-    subst (λ (fault : KFault). IsFillAnswer c.args.ino c.loop-block.block c.unstaged_from-bare.result c.loop-block.k c.fill_holes.new.self (Err fault)) c.in-Err-Refused.field-0-is c.in-Err-Refused.ensures.answer
+    let k = c.args.k.now in
+    let l = c.loop-block.k in
+    let staging = c.args.staging.now in
+    let files = c.args.files.now in
+    let block = c.loop-block.block in
+    let bare = c.unstaged_from-bare.result in
+    let below : block < c.args.first + c.args.count = omega arith in
+    let unstaged = subst (λ (runs : List Run). IsUnstaged runs block (c.args.first + c.args.count) bare) c.overlay.ensures c.unstaged_from-bare.ensures in
+    let fits : c.args.first + c.args.count ≤ 4096 = (let all = blocks_fit k staging files c.args.ino c.requires.has in let range = c.requires.range in omega (arith, all, range)) in
+    let unbatched = off k l staging files c.args.ino c.args.first c.args.count block bare c.requires.has c.loop-block.invariant.to below unstaged fits in
+    subst (λ (fault : KFault). IsFillAnswer c.args.ino c.loop-block.block c.unstaged_from-bare.result c.loop-block.k c.fill_holes.new.self (Err fault)) c.in-Err-Refused.field-0-is (c.in-Err-Refused.ensures.answer unbatched)
 
 pub loop-block-preserved : goal.loop-block-preserved
 loop-block-preserved c =
@@ -65,8 +77,10 @@ loop-block-preserved c =
     let bare = c.unstaged_from-bare.result in
     let below : block < c.args.first + c.args.count = omega arith in
     let unstaged = subst (λ (runs : List Run). IsUnstaged runs block (c.args.first + c.args.count) bare) c.overlay.ensures c.unstaged_from-bare.ensures in
+    let fits : c.args.first + c.args.count ≤ 4096 = (let all = blocks_fit k staging files c.args.ino c.requires.has in let range = c.requires.range in omega (arith, all, range)) in
+    let unbatched = off k l staging files c.args.ino c.args.first c.args.count block bare c.requires.has c.loop-block.invariant.to below unstaged fits in
     let next = fills_on k l c.fill_holes.new.self staging files c.args.ino c.args.first c.args.count block bare c.requires.has c.loop-block.invariant.to below unstaged c.requires.range c.requires.few c.requires.room c.holes_are_filled_in_flight.ensures.done c.holes_are_filled_as_asked.ensures c.args.power.now c.loop-block.power c.fill_holes.new.power c.loop-block.invariant.steps c.in-Ok.ensures.steps
-    c.in-Ok.ensures.paid c.in-Ok.ensures.answer in
+    c.in-Ok.ensures.paid (c.in-Ok.ensures.answer unbatched) in
     let sum : block + bare + 1 ≡ block + (bare + 1) = omega arith in
     record {
       to = subst (λ b. IsFilledTo k c.fill_holes.new.self staging files c.args.ino c.args.first c.args.count b) sum next.0;
@@ -84,8 +98,10 @@ returns-in-Err-PowerLost-clause-answer c =
     let bare = c.unstaged_from-bare.result in
     let below : block < c.args.first + c.args.count = omega arith in
     let unstaged = subst (λ (runs : List Run). IsUnstaged runs block (c.args.first + c.args.count) bare) c.overlay.ensures c.unstaged_from-bare.ensures in
+    let fits : c.args.first + c.args.count ≤ 4096 = (let all = blocks_fit k staging files c.args.ino c.requires.has in let range = c.requires.range in omega (arith, all, range)) in
+    let unbatched = off k l staging files c.args.ino c.args.first c.args.count block bare c.requires.has c.loop-block.invariant.to below unstaged fits in
     loses_on k l c.fill_holes.new.self staging files c.args.ino c.args.first c.args.count block bare c.requires.has c.loop-block.invariant.to below unstaged c.requires.range c.requires.few c.requires.room c.holes_are_filled_in_flight.ensures.cut c.holes_are_filled_as_asked.ensures
-    (subst (λ (fault : KFault). IsFillAnswer c.args.ino block bare l c.fill_holes.new.self (Err fault)) c.in-Err-PowerLost.field-0-is c.in-Err-PowerLost.ensures.answer)
+    (subst (λ (fault : KFault). IsFillAnswer c.args.ino block bare l c.fill_holes.new.self (Err fault)) c.in-Err-PowerLost.field-0-is (c.in-Err-PowerLost.ensures.answer unbatched))
 
 pub returns-in-Err-PowerLost-clause-paid : goal.returns-in-Err-PowerLost-clause-paid
 returns-in-Err-PowerLost-clause-paid c =
@@ -105,7 +121,17 @@ returns-in-Err-PowerLost-clause-steps c =
 
 pub returns-in-Err-NoMemory-clause-answer : goal.returns-in-Err-NoMemory-clause-answer
 returns-in-Err-NoMemory-clause-answer c =
-    let answer = subst (λ (fault : KFault). IsFillAnswer c.args.ino c.loop-block.block c.unstaged_from-bare.result c.loop-block.k c.fill_holes.new.self (Err fault)) c.in-Err-NoMemory.field-0-is c.in-Err-NoMemory.ensures.answer in
+    let k = c.args.k.now in
+    let l = c.loop-block.k in
+    let staging = c.args.staging.now in
+    let files = c.args.files.now in
+    let block = c.loop-block.block in
+    let bare = c.unstaged_from-bare.result in
+    let below : block < c.args.first + c.args.count = omega arith in
+    let unstaged = subst (λ (runs : List Run). IsUnstaged runs block (c.args.first + c.args.count) bare) c.overlay.ensures c.unstaged_from-bare.ensures in
+    let fits : c.args.first + c.args.count ≤ 4096 = (let all = blocks_fit k staging files c.args.ino c.requires.has in let range = c.requires.range in omega (arith, all, range)) in
+    let unbatched = off k l staging files c.args.ino c.args.first c.args.count block bare c.requires.has c.loop-block.invariant.to below unstaged fits in
+    let answer = subst (λ (fault : KFault). IsFillAnswer c.args.ino c.loop-block.block c.unstaged_from-bare.result c.loop-block.k c.fill_holes.new.self (Err fault)) c.in-Err-NoMemory.field-0-is (c.in-Err-NoMemory.ensures.answer unbatched) in
     subst (λ y. FillsSome c.args.k.now y c.args.staging.now c.args.files.now c.args.ino c.args.first c.args.count) (sym answer.1)
     (some_filled c.args.k.now c.loop-block.k c.args.staging.now c.args.files.now c.args.ino c.args.first c.args.count c.loop-block.block c.loop-block.invariant.to c.requires.few)
 

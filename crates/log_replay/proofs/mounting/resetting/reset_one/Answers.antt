@@ -13,7 +13,7 @@ is_high-requires c = c.requires.may.quiet
 
 pub returns-in-Ok-clause-done : goal.returns-in-Ok-clause-done
 returns-in-Ok-clause-done c =
-    inr (high-file c.args.k.now c.args.ino c.requires.may.quiet (c.is_high.ensures.0 c.if-not-is_high.false), c.in-Ok.ensures.answer)
+    inr (high-file c.args.k.now c.args.ino c.requires.may.quiet (c.is_high.ensures.0 c.if-not-is_high.false), (c.in-Ok.ensures.answer c.requires.may.quiet.rest.unbatched))
 
 pub returns-then-not-is_high-clause-images : goal.returns-then-not-is_high-clause-images
 returns-then-not-is_high-clause-images c =
@@ -22,26 +22,26 @@ returns-then-not-is_high-clause-images c =
 pub returns-in-Ok-clause-images : goal.returns-in-Ok-clause-images
 returns-in-Ok-clause-images c =
     reset-images c.args.ino c.args.k.now c.reset_applied.new.self c.reset_applied.result c.requires.may
-    (high-file c.args.k.now c.args.ino c.requires.may.quiet (c.is_high.ensures.0 c.if-not-is_high.false)) c.reset_applied.ensures.answer
+    (high-file c.args.k.now c.args.ino c.requires.may.quiet (c.is_high.ensures.0 c.if-not-is_high.false)) (c.reset_applied.ensures.answer c.requires.may.quiet.rest.unbatched)
 
 pub returns-in-Err-PowerLost-clause-images : goal.returns-in-Err-PowerLost-clause-images
 returns-in-Err-PowerLost-clause-images c =
     reset-images c.args.ino c.args.k.now c.reset_applied.new.self c.reset_applied.result c.requires.may
-    (high-file c.args.k.now c.args.ino c.requires.may.quiet (c.is_high.ensures.0 c.if-not-is_high.false)) c.reset_applied.ensures.answer
+    (high-file c.args.k.now c.args.ino c.requires.may.quiet (c.is_high.ensures.0 c.if-not-is_high.false)) (c.reset_applied.ensures.answer c.requires.may.quiet.rest.unbatched)
 
 pub returns-in-Err-NoMemory-clause-images : goal.returns-in-Err-NoMemory-clause-images
 returns-in-Err-NoMemory-clause-images c =
     reset-images c.args.ino c.args.k.now c.reset_applied.new.self c.reset_applied.result c.requires.may
-    (high-file c.args.k.now c.args.ino c.requires.may.quiet (c.is_high.ensures.0 c.if-not-is_high.false)) c.reset_applied.ensures.answer
+    (high-file c.args.k.now c.args.ino c.requires.may.quiet (c.is_high.ensures.0 c.if-not-is_high.false)) (c.reset_applied.ensures.answer c.requires.may.quiet.rest.unbatched)
 
 pub returns-then-not-is_high-clause-device : goal.returns-then-not-is_high-clause-device
 returns-then-not-is_high-clause-device c = device-none c.args.k.now.cells
 
 pub returns-in-Ok-clause-device : goal.returns-in-Ok-clause-device
-returns-in-Ok-clause-device c = device-answer None (λ done w. w ≡ reset c.args.ino c.args.k.now.volume) c.args.k.now c.reset_applied.new.self c.reset_applied.result c.reset_applied.ensures.answer
+returns-in-Ok-clause-device c = device-answer None (λ done w. w ≡ reset c.args.ino c.args.k.now.volume) c.args.k.now c.reset_applied.new.self c.reset_applied.result (c.reset_applied.ensures.answer c.requires.may.quiet.rest.unbatched)
 
 pub returns-in-Err-PowerLost-clause-device : goal.returns-in-Err-PowerLost-clause-device
-returns-in-Err-PowerLost-clause-device c = device-answer None (λ done w. w ≡ reset c.args.ino c.args.k.now.volume) c.args.k.now c.reset_applied.new.self c.reset_applied.result c.reset_applied.ensures.answer
+returns-in-Err-PowerLost-clause-device c = device-answer None (λ done w. w ≡ reset c.args.ino c.args.k.now.volume) c.args.k.now c.reset_applied.new.self c.reset_applied.result (c.reset_applied.ensures.answer c.requires.may.quiet.rest.unbatched)
 
 pub returns-in-Err-NoMemory-clause-device : goal.returns-in-Err-NoMemory-clause-device
-returns-in-Err-NoMemory-clause-device c = device-answer None (λ done w. w ≡ reset c.args.ino c.args.k.now.volume) c.args.k.now c.reset_applied.new.self c.reset_applied.result c.reset_applied.ensures.answer
+returns-in-Err-NoMemory-clause-device c = device-answer None (λ done w. w ≡ reset c.args.ino c.args.k.now.volume) c.args.k.now c.reset_applied.new.self c.reset_applied.result (c.reset_applied.ensures.answer c.requires.may.quiet.rest.unbatched)

@@ -13,21 +13,21 @@ set_size-requires-clause-room c on = room-there c.args.k.now c.requires.quiet
 
 pub returns-in-Ok-clause-images : goal.returns-in-Ok-clause-images
 returns-in-Ok-clause-images c =
-    size-images c.args.ino c.args.size c.args.k.now c.set_size.new.self c.set_size.result c.requires.quiet c.requires.file c.requires.own c.set_size.ensures.answer
+    size-images c.args.ino c.args.size c.args.k.now c.set_size.new.self c.set_size.result c.requires.quiet c.requires.file c.requires.own (c.set_size.ensures.answer c.requires.quiet.rest.unbatched)
 
 pub returns-in-Err-PowerLost-clause-images : goal.returns-in-Err-PowerLost-clause-images
 returns-in-Err-PowerLost-clause-images c =
-    size-images c.args.ino c.args.size c.args.k.now c.set_size.new.self c.set_size.result c.requires.quiet c.requires.file c.requires.own c.set_size.ensures.answer
+    size-images c.args.ino c.args.size c.args.k.now c.set_size.new.self c.set_size.result c.requires.quiet c.requires.file c.requires.own (c.set_size.ensures.answer c.requires.quiet.rest.unbatched)
 
 pub returns-in-Err-NoMemory-clause-images : goal.returns-in-Err-NoMemory-clause-images
 returns-in-Err-NoMemory-clause-images c =
-    size-images c.args.ino c.args.size c.args.k.now c.set_size.new.self c.set_size.result c.requires.quiet c.requires.file c.requires.own c.set_size.ensures.answer
+    size-images c.args.ino c.args.size c.args.k.now c.set_size.new.self c.set_size.result c.requires.quiet c.requires.file c.requires.own (c.set_size.ensures.answer c.requires.quiet.rest.unbatched)
 
 pub returns-in-Ok-clause-device : goal.returns-in-Ok-clause-device
-returns-in-Ok-clause-device c = device-mapped (IsSizedWith c.args.ino c.args.size c.args.k.now) c.args.k.now c.set_size.new.self c.set_size.result c.set_size.ensures.answer
+returns-in-Ok-clause-device c = device-mapped (IsSizedWith c.args.ino c.args.size c.args.k.now) c.args.k.now c.set_size.new.self c.set_size.result (c.set_size.ensures.answer c.requires.quiet.rest.unbatched)
 
 pub returns-in-Err-PowerLost-clause-device : goal.returns-in-Err-PowerLost-clause-device
-returns-in-Err-PowerLost-clause-device c = device-mapped (IsSizedWith c.args.ino c.args.size c.args.k.now) c.args.k.now c.set_size.new.self c.set_size.result c.set_size.ensures.answer
+returns-in-Err-PowerLost-clause-device c = device-mapped (IsSizedWith c.args.ino c.args.size c.args.k.now) c.args.k.now c.set_size.new.self c.set_size.result (c.set_size.ensures.answer c.requires.quiet.rest.unbatched)
 
 pub returns-in-Err-NoMemory-clause-device : goal.returns-in-Err-NoMemory-clause-device
-returns-in-Err-NoMemory-clause-device c = device-mapped (IsSizedWith c.args.ino c.args.size c.args.k.now) c.args.k.now c.set_size.new.self c.set_size.result c.set_size.ensures.answer
+returns-in-Err-NoMemory-clause-device c = device-mapped (IsSizedWith c.args.ino c.args.size c.args.k.now) c.args.k.now c.set_size.new.self c.set_size.result (c.set_size.ensures.answer c.requires.quiet.rest.unbatched)

@@ -25,3 +25,6 @@ returns-clause-images c =
 
 pub returns-clause-device : goal.returns-clause-device
 returns-clause-device c = unstaged-device c.new.result c.give_up_all.new.self c.args.k.now c.give_up_all.new.k c.give_up_all.result c.give_up_all.ensures.answer
+
+pub give_up_all-requires-clause-unbatched : goal.give_up_all-requires-clause-unbatched
+give_up_all-requires-clause-unbatched c on = c.requires.rest.unbatched

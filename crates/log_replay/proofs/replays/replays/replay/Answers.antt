@@ -49,13 +49,13 @@ returns-in-Err-clause-steps c =
 
 pub returns-in-Err-clause-paid : goal.returns-in-Err-clause-paid
 returns-in-Err-clause-paid c =
-    let answer = subst (λ m. IsRelinkAnswer m c.loop-entry.k c.relink.new.self (Err c.in-Err.fault)) c.move_for.ensures c.in-Err.ensures.answer in
+    let answer = subst (λ m. IsRelinkAnswer m c.loop-entry.k c.relink.new.self (Err c.in-Err.fault)) c.move_for.ensures (c.in-Err.ensures.answer c.loop-entry.invariant.0.rest.unbatched) in
     subst (IsReplayPaid c.relink.new.power) (sym c.stopped_by.ensures)
     (way-stops-paid (entry_at c.args.entries.now c.loop-entry.entry-index) c.loop-entry.k c.relink.new.self c.loop-entry.power c.relink.new.power c.in-Err.fault answer c.in-Err.ensures.paid)
 
 pub returns-in-Err-clause-answer : goal.returns-in-Err-clause-answer
 returns-in-Err-clause-answer c =
-    let answer = subst (λ m. IsRelinkAnswer m c.loop-entry.k c.relink.new.self (Err c.in-Err.fault)) c.move_for.ensures c.in-Err.ensures.answer in
+    let answer = subst (λ m. IsRelinkAnswer m c.loop-entry.k c.relink.new.self (Err c.in-Err.fault)) c.move_for.ensures (c.in-Err.ensures.answer c.loop-entry.invariant.0.rest.unbatched) in
     subst (IsReplayAnswer c.args.k.now c.relink.new.self) (sym c.stopped_by.ensures)
     (answer-stopped (entry_at c.args.entries.now c.loop-entry.entry-index) c.args.k.now c.loop-entry.k c.relink.new.self c.in-Err.fault answer)
 
@@ -68,7 +68,7 @@ returns-in-Err-clause-images c =
     let way : IsOnTheWay c.args.k.now (entry_at c.args.entries.now c.loop-entry.entry-index ∷ drop (c.loop-entry.entry-index + 1) c.args.entries.now) c.loop-entry.k =
     way-at c.args.k.now ds i blank e c.loop-entry.k below refl c.loop-entry.invariant.0
     in
-    let answer = subst (λ m. IsRelinkAnswer m c.loop-entry.k c.relink.new.self (Err c.in-Err.fault)) c.move_for.ensures c.in-Err.ensures.answer in
+    let answer = subst (λ m. IsRelinkAnswer m c.loop-entry.k c.relink.new.self (Err c.in-Err.fault)) c.move_for.ensures (c.in-Err.ensures.answer c.loop-entry.invariant.0.rest.unbatched) in
     way-stops c.args.k.now e (drop (i + 1) ds) c.loop-entry.k c.relink.new.self c.in-Err.fault c.requires.rest way answer
 
 pub loop-entry-preserved : goal.loop-entry-preserved
@@ -80,11 +80,11 @@ loop-entry-preserved c =
     let way : IsOnTheWay c.args.k.now (entry_at c.args.entries.now c.loop-entry.entry-index ∷ drop (c.loop-entry.entry-index + 1) c.args.entries.now) c.loop-entry.k =
     way-at c.args.k.now ds i blank e c.loop-entry.k below refl c.loop-entry.invariant.0
     in
-    let gave = subst (λ m. IsRelinkAnswer m c.loop-entry.k c.relink.new.self (Ok tt)) c.move_for.ensures c.in-Ok.ensures.answer in (
+    let gave = subst (λ m. IsRelinkAnswer m c.loop-entry.k c.relink.new.self (Ok tt)) c.move_for.ensures (c.in-Ok.ensures.answer c.loop-entry.invariant.0.rest.unbatched) in (
       way-goes_on c.args.k.now e (drop (i + 1) ds) c.loop-entry.k way c.relink.new.self gave,
       more-steps (i + 1) i c.args.power.now c.loop-entry.power c.relink.new.power (omega arith) c.loop-entry.invariant.1 c.relink.ensures.steps,
       c.in-Ok.ensures.paid.0,
-      device-then c.args.k.now.cells c.loop-entry.k.cells c.relink.new.self.cells c.loop-entry.invariant.3 (device-mapped (IsMovedWith c.move_for.result c.loop-entry.k) c.loop-entry.k c.relink.new.self c.relink.result c.relink.ensures.answer),
+      device-then c.args.k.now.cells c.loop-entry.k.cells c.relink.new.self.cells c.loop-entry.invariant.3 (device-mapped (IsMovedWith c.move_for.result c.loop-entry.k) c.loop-entry.k c.relink.new.self c.relink.result (c.relink.ensures.answer c.loop-entry.invariant.0.rest.unbatched)),
     )
 
 pub returns-clause-steps : goal.returns-clause-steps
@@ -102,7 +102,7 @@ returns-then-not-on-clause-device c = device-none c.args.k.now.cells
 pub returns-in-Err-clause-device : goal.returns-in-Err-clause-device
 returns-in-Err-clause-device c =
     device-then c.args.k.now.cells c.loop-entry.k.cells c.relink.new.self.cells c.loop-entry.invariant.3
-    (device-mapped (IsMovedWith c.move_for.result c.loop-entry.k) c.loop-entry.k c.relink.new.self c.relink.result c.relink.ensures.answer)
+    (device-mapped (IsMovedWith c.move_for.result c.loop-entry.k) c.loop-entry.k c.relink.new.self c.relink.result (c.relink.ensures.answer c.loop-entry.invariant.0.rest.unbatched))
 
 pub returns-clause-device : goal.returns-clause-device
 returns-clause-device c = c.loop-entry.invariant.3

@@ -36,7 +36,7 @@ pub preallocate-requires-clause-room : goal.preallocate-requires-clause-room
 preallocate-requires-clause-room c on = c.requires.room
 
 pub run_at-run-requires : goal.run_at-run-requires
-run_at-run-requires c = staging-file c.preallocate.new.self.volume c.args.staging c.in-Ok.ensures.answer.2.order.whole c.requires.staging
+run_at-run-requires c = staging-file c.preallocate.new.self.volume c.args.staging (c.in-Ok.ensures.answer c.requires.unbatched).2.order.whole c.requires.staging
 
 pub invariant_of-self-in-Ok : goal.invariant_of-self-in-Ok
 invariant_of-self-in-Ok c =
@@ -48,7 +48,7 @@ invariant_of-self-in-Ok c =
 
 pub returns-in-Ok-clause-answer : goal.returns-in-Ok-clause-answer
 returns-in-Ok-clause-answer c = (
-  c.in-Ok.ensures.answer,
+  c.in-Ok.ensures.answer c.requires.unbatched,
   c.run_at-run.ensures,
   (λ i. record {
     out = (c.push_reserved.ensures.items ∙ ap (λ xs. xs ++ (c.run_at-run.result ∷ [])) (c.reserve.ensures.items ∙ ap (λ v. v.out) c.self.view_is)) i;
@@ -62,11 +62,11 @@ invariant_of-self-in-Err c = subst (λ xs. IsStaged (record { out = xs; given = 
 pub returns-in-Err-clause-paid : goal.returns-in-Err-clause-paid
 returns-in-Err-clause-paid c =
     subst (λ f. IsReservePaid c.args.power.now c.preallocate.new.power (Err f)) (sym c.fault_of.ensures)
-    (give-stopped-paid c.args.staging c.args.share c.args.k.now c.preallocate.new.self c.args.power.now c.preallocate.new.power c.in-Err.fault c.in-Err.ensures.answer c.in-Err.ensures.paid)
+    (give-stopped-paid c.args.staging c.args.share c.args.k.now c.preallocate.new.self c.args.power.now c.preallocate.new.power c.in-Err.fault (c.in-Err.ensures.answer c.requires.unbatched) c.in-Err.ensures.paid)
 
 pub returns-in-Err-clause-answer : goal.returns-in-Err-clause-answer
 returns-in-Err-clause-answer c =
     let t : Staged = record { out = c.reserve.new.self.items; given = c.self.inside.given } in
     subst (λ f. IsGiveAnswer c.args.staging c.args.count c.args.share c.args.self.now c.args.k.now t c.preallocate.new.self (Err f)) (sym c.fault_of.ensures)
     (give-stopped c.args.staging c.args.count c.args.share c.args.self.now t c.args.k.now c.preallocate.new.self c.in-Err.fault
-    (ap (λ xs. record { out = xs; given = c.self.inside.given }) c.reserve.ensures.items ∙ c.self.view_is) c.in-Err.ensures.answer)
+    (ap (λ xs. record { out = xs; given = c.self.inside.given }) c.reserve.ensures.items ∙ c.self.view_is) (c.in-Err.ensures.answer c.requires.unbatched))

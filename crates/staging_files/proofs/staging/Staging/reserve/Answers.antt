@@ -182,3 +182,6 @@ returns-in-Some-second_way-clause-single c =
     in
     given-single x c.args.count c.args.self.now c.args.k.now c.give.new.k (c.is_lost.ensures.order on) c.in_default.ensures.keeps (c.requires.agrees on) c.requires.some c.requires.most
     way c.give.new.self c.give.result gave
+
+pub give-requires-clause-unbatched : goal.give-requires-clause-unbatched
+give-requires-clause-unbatched c = c.requires.unbatched (sym c.is_lost.ensures.lost ∙ c.if-is_lost.false)

@@ -90,3 +90,6 @@ returns-else-is_fresh-clause-gone c =
     (subst (λ (m : ℕ). LacksRun c.args.mode c.args.k.now c.reserve.new.k c.args.staging.now c.reserve.new.self c.args.files.now c.args.files.now c.args.who c.args.target c.args.bytes.now (reached_run c.args.target (length c.args.bytes.now)) c.in-Err-NoRoom.need m) (sym (c.from-in-Err-NoRoom.ensures ∙ c.in-Err-NoRoom.room-is))
     (lacks_run c.args.mode c.args.k.now c.reserve.new.k c.args.staging.now c.reserve.new.self c.args.files.now c.args.who c.args.target c.args.bytes.now c.count_of-count.result c.in-Err-NoRoom.need c.in-Err-NoRoom.room c.count_of-count.ensures.count
     (late_of c.args.staging.now c.reserve.new.self answer.1.staging c.requires.bare (λ fresh. (let never : false ≡ true = c.if-is_fresh.ensures.1 fresh in cc))) answer.0 answer.1))
+
+pub reserve-requires-clause-unbatched : goal.reserve-requires-clause-unbatched
+reserve-requires-clause-unbatched c on = c.requires.goes.stands.unbatched

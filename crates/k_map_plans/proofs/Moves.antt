@@ -307,7 +307,7 @@ plan-two t w b file staging n taken file_map staging_map lowest parts file_size 
   most = most;
   unused = subst (All (λ k. is_unused t.volume k ≡ true)) all (λ k d below. free-unused t (get_or taken k d) (lowest.were_free k d below));
   distinct = λ k below. elim (cases_lt k 1) [
-    | inl zero_at ↦
+    | inl below_one ↦
         let here : 0 ≡ k = omega arith in
         subst (λ i. AreDistinct (new_at (file ∷ staging ∷ []) i).blocks) here (distinct-left file.blocks staging.blocks distinct)
     | inr later ↦
@@ -320,7 +320,7 @@ plan-two t w b file staging n taken file_map staging_map lowest parts file_size 
       subst (λ i. AreApart (new_at (file ∷ staging ∷ []) i).blocks (new_at (file ∷ staging ∷ []) k).blocks) first
       (subst (λ i. AreApart file.blocks (new_at (file ∷ staging ∷ []) i).blocks) second (distinct-apart file.blocks staging.blocks distinct));
   counts = λ k below. elim (cases_lt k 1) [
-    | inl zero_at ↦
+    | inl below_one ↦
         let here : 0 ≡ k = omega arith in
         subst (λ i. length (new_at (file ∷ staging ∷ []) i).blocks ≡ chains_for (length (new_at (file ∷ staging ∷ []) i).extents)) here file_size
     | inr later ↦

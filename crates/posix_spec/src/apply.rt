@@ -69,9 +69,9 @@ impl State {
             Call::Dup(old, new) => self.dup(who, *old, *new),
             Call::Read(handle, count) => self.read(who, *handle, *count),
             Call::Pread(handle, place, count) => self.pread(who, *handle, *place, *count),
-            Call::Write(handle, data) => self.write(who, *handle, data.bytes.as_slice()),
+            Call::Write(handle, data) => self.write(who, *handle, data.as_slice()),
             Call::Pwrite(handle, place, data) => {
-                self.pwrite(who, *handle, *place, data.bytes.as_slice())
+                self.pwrite(who, *handle, *place, data.as_slice())
             }
             Call::Seek(handle, whence, by) => Ok(self.seek(who, *handle, *whence, *by)),
             Call::Truncate(handle, length) => self.truncate(who, *handle, *length),

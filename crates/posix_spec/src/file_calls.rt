@@ -195,7 +195,7 @@ impl State {
             offset,
             count,
         )?;
-        self.move_offset(who, handle, offset + read.bytes.len() as u64);
+        self.move_offset(who, handle, offset + read.len() as u64);
         Ok(answer(Reply::Bytes(read)))
     }
 

@@ -319,10 +319,9 @@ impl State {
         ensures err { OnErr result (self.new ≡ self.old) }
     {
         let number = self.number_at(path);
+        let bytes = Data::of(Vec::new(*self.nodes.allocator()))?;
         let file = Node::File(File {
-            bytes: Data {
-                bytes: Vec::new(*self.nodes.allocator()),
-            },
+            bytes,
             published: 0,
         });
         if !self.exists_at(path) {
@@ -440,6 +439,6 @@ fn stat_at(nodes: &[Node], number: usize) -> Stat
     match &nodes[number] {
         Node::Gone => Stat::Directory,
         Node::Directory => Stat::Directory,
-        Node::File(file) => Stat::File(file.bytes.bytes.len() as u64),
+        Node::File(file) => Stat::File(file.bytes.len() as u64),
     }
 }

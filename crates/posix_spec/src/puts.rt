@@ -61,7 +61,7 @@ impl State {
         ensures { IfOk result (λ put. put ≡ put_at self.now who handle start data.now) }
     {
         if self
-            .write_rows(who, handle, start, data.bytes.as_slice())
+            .write_rows(who, handle, start, data.as_slice())
             .is_some()
         {
             return Ok(None);

@@ -36,7 +36,7 @@ pub fn bytes_from(alloc: Global, bytes: &[u8], place: u64, count: u64) -> Result
     ensures { IfOk result (λ read. read ≡ bytes_from bytes.now place count) }
 {
     let bytes = Vec::from_slice(alloc, head(tail(bytes, place), count))?;
-    Ok(Data { bytes })
+    Data::of(bytes)
 }
 
 /// The bytes cut to a length, or lengthened with zeros.
@@ -45,7 +45,7 @@ pub fn resized(alloc: Global, bytes: &[u8], length: u64) -> Result<Data, AllocEr
 {
     let mut bytes = Vec::from_slice(alloc, bytes)?;
     bytes.resize(length as usize, 0)?;
-    Ok(Data { bytes })
+    Data::of(bytes)
 }
 
 /// The bytes with others from a start on, a gap being zeros.
@@ -57,7 +57,7 @@ pub fn overwritten(alloc: Global, old: &[u8], start: u64, new: &[u8]) -> Result<
     bytes.resize(start as usize, 0)?;
     bytes.extend_from_slice(new)?;
     bytes.extend_from_slice(tail(old, start + new.len() as u64))?;
-    Ok(Data { bytes })
+    Data::of(bytes)
 }
 
 /// Whether a start and a length lead past the longest file.

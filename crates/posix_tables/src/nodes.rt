@@ -103,7 +103,7 @@ pub fn length_of(node: &Node) -> u64
     match node {
         Node::Gone => 0,
         Node::Directory => 0,
-        Node::File(file) => file.bytes.bytes.len() as u64,
+        Node::File(file) => file.bytes.len() as u64,
     }
 }
 
@@ -117,7 +117,7 @@ pub fn bytes_at(nodes: &[Node], number: usize) -> &[u8]
     match &nodes[number] {
         Node::Gone => &[],
         Node::Directory => &[],
-        Node::File(file) => file.bytes.bytes.as_slice(),
+        Node::File(file) => file.bytes.as_slice(),
     }
 }
 
@@ -150,7 +150,7 @@ pub fn publish(nodes: &mut [Node], number: usize)
 {
     if number < nodes.len() {
         if let Node::File(file) = &mut nodes[number] {
-            file.published = file.bytes.bytes.len() as u64;
+            file.published = file.bytes.len() as u64;
         }
     }
 }

@@ -37,7 +37,7 @@ fn printed(alloc: Global, path: &Path) -> Result<Data, AllocError>
     if is_root(path) {
         text.push(b'/')?;
     }
-    Ok(Data { bytes: text })
+    Data::of(text)
 }
 
 /// The first entry that leads to a node.
@@ -97,7 +97,7 @@ fn entry_place(alloc: Global, entries: &[DirEntry], entry: &DirEntry) -> Result<
 fn place_before(places: &[Place], text: &Data) -> Option<usize>
     ensures { result ≡ position (λ other. bytes_before text.now other.text) places.now }
 {
-    places.iter().position(|other| bytes_before(text.bytes.as_slice(), other.text.bytes.as_slice()))
+    places.iter().position(|other| bytes_before(text.as_slice(), other.text.as_slice()))
 }
 
 fn insertion_place(places: &[Place], text: &Data) -> usize
@@ -193,7 +193,7 @@ pub fn node_of(node: &TreeNode) -> Result<Node, AllocError>
     match node {
         TreeNode::Directory => Ok(Node::Directory),
         TreeNode::File(bytes) => Ok(Node::File(File {
-            published: bytes.bytes.len() as u64,
+            published: bytes.len() as u64,
             bytes: bytes.clone()?,
         })),
     }

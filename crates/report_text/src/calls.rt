@@ -97,7 +97,7 @@ fn put_write(text: &mut Vec<u8>, handle: Handle, bytes: &Data) -> Result<(), All
 {
     put_on_handle(text, "write ", handle)?;
     text.push(b' ')?;
-    put_data(text, &bytes.bytes)
+    put_data(text, bytes.as_slice())
 }
 
 /// Puts a write at a place.
@@ -111,7 +111,7 @@ fn put_pwrite(
 {
     put_with_number(text, "pwrite ", handle, offset)?;
     text.push(b' ')?;
-    put_data(text, &bytes.bytes)
+    put_data(text, bytes.as_slice())
 }
 
 /// Puts a read from a place.

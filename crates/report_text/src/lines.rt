@@ -73,8 +73,8 @@ fn put_node(text: &mut Vec<u8>, node: &TreeNode) -> Result<(), AllocError>
     match node {
         TreeNode::Directory => put_str(text, " dir"),
         TreeNode::File(data) => {
-            put_number(text, " file ", data.bytes.len() as u64)?;
-            put_file(text, &data.bytes)
+            put_number(text, " file ", data.len() as u64)?;
+            put_file(text, data.as_slice())
         }
     }
 }

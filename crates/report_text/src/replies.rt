@@ -55,7 +55,7 @@ fn put_read(text: &mut Vec<u8>, bytes: &Data) -> Result<(), AllocError>
     ensures { OnOk result (text.new.items ≡ text.old.items ++ reply_text (Reply.Bytes bytes.now)) }
 {
     put_str(text, "data ")?;
-    put_data(text, &bytes.bytes)
+    put_data(text, bytes.as_slice())
 }
 
 /// Puts the names of a list.

@@ -58,7 +58,7 @@ fn read_pairs(alloc: Global, word: &[u8]) -> Result<Data, AllocError>
         bytes.push(hex_byte(rest[0], rest[1]))?;
         rest = behind(rest, 2);
     }
-    Ok(Data { bytes })
+    Data::of(bytes)
 }
 
 /// Whether a word is two digits, a star, and more.
@@ -81,7 +81,7 @@ fn read_repeated(alloc: Global, word: &[u8]) -> Result<Option<Data>, AllocError>
     }
     let byte = hex_byte(word[0], word[1]);
     let bytes = vec![in alloc; byte; count as usize]?;
-    Ok(Some(Data { bytes }))
+    Ok(Some(Data::of(bytes)?))
 }
 
 /// Whether a word has an even number of bytes.
@@ -98,9 +98,7 @@ pub(crate) fn read_data(alloc: Global, word: &[u8]) -> Result<Option<Data>, Allo
     ensures { IfOk result (λ bytes. bytes ≡ data_in word.now) }
 {
     if word == b"-".as_slice() {
-        return Ok(Some(Data {
-            bytes: Vec::new(alloc),
-        }));
+        return Ok(Some(Data::of(Vec::new(alloc))?));
     }
     if is_repeat(word) {
         return read_repeated(alloc, word);

@@ -60,7 +60,7 @@ fn load_bytes(alloc: Global, t: u32, r: u64) -> Result<Data, AllocError>
     ensures { IfOk result (λ bytes. bytes ≡ load_bytes t r) }
 {
     let bytes = vec![in alloc; b'a' + t as u8; load_length(r) as usize]?;
-    Ok(Data { bytes })
+    Data::of(bytes)
 }
 
 /// The call of the set-up that opens a thread's file.

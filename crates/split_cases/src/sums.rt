@@ -114,7 +114,7 @@ fn size_of(node: &TreeNode) -> u64
 {
     match node {
         TreeNode::Directory => 0,
-        TreeNode::File(data) => data.bytes.len() as u64,
+        TreeNode::File(data) => data.len() as u64,
     }
 }
 

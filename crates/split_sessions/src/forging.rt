@@ -259,7 +259,7 @@ fn entry_of(alloc: Global, letter: u8, bytes: Vec<u8>) -> Result<TreeEntry, Allo
     })?;
     Ok(TreeEntry {
         path: Path { names },
-        node: TreeNode::File(Data { bytes }),
+        node: TreeNode::File(Data::of(bytes)?),
     })
 }
 

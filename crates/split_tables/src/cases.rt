@@ -121,7 +121,7 @@ fn bytes_in(tree: &Tree) -> u64 {
     let mut count: u64 = 0;
     for entry in &tree.entries {
         if let TreeNode::File(data) = &entry.node {
-            count = count.saturating_add(data.bytes.len() as u64);
+            count = count.saturating_add(data.len() as u64);
         }
     }
     count

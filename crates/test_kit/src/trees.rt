@@ -46,7 +46,7 @@ fn data(alloc: Global, text: &str) -> Result<Data, RowError> {
         Some((pair, count)) => put_equal(&mut bytes, pair, count)?,
         None => put_pairs(&mut bytes, text)?,
     }
-    Ok(Data { bytes })
+    Ok(Data::of(bytes)?)
 }
 
 // Adds a name.

@@ -33,7 +33,7 @@ impl Effect {
             None => None,
             Some(put) => {
                 if put.node == n && put.place <= i as u64 {
-                    put.bytes.bytes.get(i - put.place as usize).copied()
+                    put.bytes.as_slice().get(i - put.place as usize).copied()
                 } else {
                     None
                 }
@@ -108,7 +108,7 @@ fn end_of(nodes: &[Node], n: usize, end: usize) -> usize
     match &nodes[n] {
         Node::Gone => end,
         Node::Directory => end,
-        Node::File(file) => file.bytes.bytes.len(),
+        Node::File(file) => file.bytes.len(),
     }
 }
 

@@ -25,7 +25,7 @@ fn nearest(effects: &[Effect], extra: &[Effect], n: usize, i: usize, v: u8, x: u
 fn published_bytes(file: &File) -> &[u8]
     ensures { result.now ≡ take file.now.published file.now.bytes }
 {
-    let bytes = file.bytes.bytes.as_slice();
+    let bytes = file.bytes.as_slice();
     if file.published < bytes.len() as u64 {
         &bytes[..file.published as usize]
     } else {
@@ -47,7 +47,8 @@ fn nearest_bytes(
     for (i, v) in published_bytes(file).iter().enumerate() {
         bytes.push(nearest(effects, extra, n, i, *v, byte_at(want, i)))?;
     }
-    Ok(Data { bytes })
+    let left = Data::of(bytes)?;
+    Ok(left)
 }
 
 fn nearest_nodes(

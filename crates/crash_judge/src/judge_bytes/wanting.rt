@@ -12,7 +12,7 @@ fn label(alloc: Global, k: usize) -> Result<Node, AllocError>
 {
     let bytes = vec![in alloc; 0; k]?;
     Ok(Node::File(File {
-        bytes: Data { bytes },
+        bytes: Data::of(bytes)?,
         published: 0,
     }))
 }
@@ -33,7 +33,7 @@ fn told_number(count: usize, node: &TreeNode) -> usize
 {
     match node {
         TreeNode::Directory => count,
-        TreeNode::File(bytes) => bytes.bytes.len(),
+        TreeNode::File(bytes) => bytes.len(),
     }
 }
 
@@ -70,7 +70,7 @@ fn entry_bytes(node: &TreeNode) -> &[u8]
 {
     match node {
         TreeNode::Directory => &[],
-        TreeNode::File(bytes) => bytes.bytes.as_slice(),
+        TreeNode::File(bytes) => bytes.as_slice(),
     }
 }
 

@@ -50,7 +50,7 @@ fn toward(
             bytes_at(next.nodes(), put.node),
             want,
         )?;
-        next.set_bytes(put.node, Data { bytes });
+        next.set_bytes(put.node, Data::of(bytes)?);
     }
     Ok(next)
 }

@@ -27,13 +27,13 @@ fn bytes_at(
     ino: u32,
     place: u64,
     count: u64,
-) -> Result<Vec<u8>, AllocError>
+) -> Result<Data, AllocError>
     requires { IsReadableFile k.now data.now ino }
-    ensures { IfOk result (λ bytes. bytes.items ≡ bytes_in k.now.volume (words_of k.now.cells)
+    ensures { IfOk result (λ bytes. bytes ≡ bytes_in k.now.volume (words_of k.now.cells)
         (runs_in data.now ino) ino place (read_len (size_in data.now ino) place count)) }
 {
     let mut collection = Collection::new(alloc);
-    read_bytes(
+    let bytes = read_bytes(
         alloc,
         k,
         ino,
@@ -42,7 +42,8 @@ fn bytes_at(
         count,
         data.overlay(ino),
         &mut collection,
-    )
+    )?;
+    Data::of(bytes)
 }
 
 // The file of a handle, where it was opened to be read.
@@ -77,7 +78,7 @@ pub fn read(
         Some(opened) => {
             let bytes = bytes_at(alloc, k, data, opened.ino, opened.offset, count)?;
             files.set_offset(opened.key, opened.offset + bytes.len() as u64);
-            Ok(answered(Reply::Bytes(Data { bytes })))
+            Ok(answered(Reply::Bytes(bytes)))
         }
     }
 }
@@ -103,7 +104,7 @@ pub fn pread(
         None => Ok(answered(Reply::Error(Errno::EBADF))),
         Some(opened) => {
             let bytes = bytes_at(alloc, k, data, opened.ino, place, count)?;
-            Ok(answered(Reply::Bytes(Data { bytes })))
+            Ok(answered(Reply::Bytes(bytes)))
         }
     }
 }

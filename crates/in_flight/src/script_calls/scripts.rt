@@ -33,7 +33,8 @@ fn copy_at(calls: &[Call], place: usize) -> Result<Option<Call>, AllocError>
     }
 }
 
-/// A copy of the call at a place of a caller's script, if there is one.
+/// A copy of the call at a place of a caller's script, if there is one. The bytes of a write are shared, not copied: memory
+/// is taken for the names of its paths alone.
 ///
 /// # Errors
 ///

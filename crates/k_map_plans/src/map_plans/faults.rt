@@ -1,6 +1,4 @@
 //! Why a change of maps is not planned.
-ghost use Rattle.std.specs.Prelude.{◌≡◌};
-
 use std::alloc::AllocError;
 use thiserror::Error;
 

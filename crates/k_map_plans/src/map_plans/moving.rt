@@ -1,5 +1,5 @@
 //! Blocks go from a staging file to a file.
-ghost use Rattle.std.specs.Prelude.{◌≡◌, ◌≢◌, ◌<◌, ◌≤◌, ◌+◌, ◌++◌, ◌^◌, ◌∷◌, [], ℕ, All, List, length, Err, IfOk, OnErr, OnOk};
+ghost use Rattle.std.specs.Prelude.{◌≡◌, ◌≢◌, ◌<◌, ◌≤◌, ◌+◌, ◌++◌, ◌∷◌, [], ℕ, All, List, length, Err, IfOk, OnErr, OnOk};
 ghost use Rattle.block_counts.specs.Counts.{chains_for};
 ghost use Rattle.k_plans.specs.layout_model.Places.{reserve};
 ghost use Rattle.k_plans.specs.image_model.Volume.{Volume, chain, extents, inode};

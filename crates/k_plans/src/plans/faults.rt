@@ -1,5 +1,5 @@
 //! Why a change is not planned.
-ghost use Rattle.std.specs.Prelude.{◌≡◌, ◌≢◌, Some};
+ghost use Rattle.std.specs.Prelude.{◌≢◌, Some};
 ghost use Rattle.k_plans.specs.PlansPlans.{IsFaultOf};
 ghost use Rattle.k_tables.specs.Refusals.{outcome_of};
 

@@ -2,7 +2,7 @@
 ghost use Rattle.std.specs.Prelude.{◌≡◌, ◌<◌, ℕ, [], length, true, false};
 ghost use Rattle.k_reading.specs.block_pool.FreeSets.{is_among};
 ghost use Rattle.k_tables.specs.image_model.Placed.{extent_at};
-ghost use Rattle.k_tables.specs.extent_model.Extents.{covers, holds_disk};
+ghost use Rattle.k_tables.specs.extent_model.Extents.{holds_disk};
 ghost use Rattle.k_plans.specs.Free.{AreKeptBack};
 ghost use Rattle.k_plans.specs.Giving.{AreGiven, MayGiveChain, MayGiveMap, is_held};
 ghost use Rattle.k_plans.specs.Switching.{IsHeld, with_aside, with_waiting};

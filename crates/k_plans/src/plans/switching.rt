@@ -1,5 +1,5 @@
 //! Maps that change: blocks are set aside, and inodes go over to maps.
-ghost use Rattle.std.specs.Prelude.{◌≡◌, ◌<◌, ◌≤◌, ◌+◌, ℕ, List, [], length, OnErr, IfNone, IfOk, IfSome};
+ghost use Rattle.std.specs.Prelude.{◌≡◌, ◌<◌, ◌≤◌, ◌+◌, ℕ, List, length, OnErr, IfNone, IfOk, IfSome};
 ghost use Rattle.k_tables.specs.image_model.Chains.{first_or_zero};
 ghost use Rattle.k_tables.specs.image_model.Volume.{Volume, chain, extents};
 ghost use Rattle.k_tables.specs.extent_model.Extents.{IsCanonical};

@@ -62,5 +62,5 @@ pub(crate) fn read_file(
         push_line(&mut bytes, pm, map, line, 64)?;
     }
     push_line(&mut bytes, pm, map, lines, (size % 64) as usize)?;
-    Ok(Data { bytes })
+    Data::of(bytes)
 }

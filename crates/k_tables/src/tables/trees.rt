@@ -40,7 +40,7 @@ fn printed(alloc: Global, path: &Path) -> Result<Data, AllocError>
     if is_root(path) {
         text.push(b'/')?;
     }
-    Ok(Data { bytes: text })
+    Data::of(text)
 }
 
 // The place of a path.
@@ -144,6 +144,6 @@ pub fn tree_places(alloc: Global, names: &NameTable) -> Result<Vec<TreePlace>, A
     ensures { IfOk result (λ places. IsTree names.now places.items) }
 {
     let mut places = places_by_length(alloc, names)?;
-    places.sort_unstable_by(|a, b| a.text.bytes.cmp(&b.text.bytes));
+    places.sort_unstable_by(|a, b| a.text.as_slice().cmp(b.text.as_slice()));
     Ok(places)
 }

@@ -64,7 +64,7 @@ pub fn put_of(call: &Call) -> Option<Put<'_>>
 fn count_of(bytes: &Data) -> u64
     ensures { result ≡ length bytes.now }
 {
-    bytes.bytes.len() as u64
+    bytes.len() as u64
 }
 
 /// A write begins: it returns, written in place where it is not logged, becomes a job, ends the round, or loses its power.

@@ -30,7 +30,7 @@ fn put_count(call: &Call) -> u64
     ensures { result ≡ length (put_bytes_of call.now) }
 {
     match call {
-        Call::Write(_, data) | Call::Pwrite(_, _, data) => data.bytes.len() as u64,
+        Call::Write(_, data) | Call::Pwrite(_, _, data) => data.len() as u64,
         _ => 0,
     }
 }

@@ -82,7 +82,6 @@ pub fn begin_write(
     laws::numbers_are_those_of_the_state();
     laws::kept_numbers_are_those_of_the_state();
     let blocks = k.geometry().data_blocks();
-    let new = bytes.bytes.as_slice();
     match ask(
         mode,
         tables,
@@ -90,14 +89,14 @@ pub fn begin_write(
         who,
         handle,
         offset,
-        new.len(),
+        bytes.len(),
         blocks,
         needs,
     ) {
         Asked::Answered(outcome) => Ok(WriteBegun::Answered(outcome)),
         Asked::Full { need, left } => Ok(WriteBegun::RoundOver { need, room: left }),
         Asked::Goes(target) => begin_target(
-            alloc, k, staging, files, who, mode, target, new, power,
+            alloc, k, staging, files, who, mode, target, bytes, power,
         ),
     }
 }

@@ -58,7 +58,7 @@ pub fn need_of(mode: Mode, tables: &OpenFiles, files: &FileTable, who: Who, call
 {
     match call {
         Call::Write(handle, data) => {
-            need_through(mode, tables, files, who, *handle, None, data.bytes.len())
+            need_through(mode, tables, files, who, *handle, None, data.len())
         }
         Call::Pwrite(handle, offset, data) => need_through(
             mode,
@@ -67,7 +67,7 @@ pub fn need_of(mode: Mode, tables: &OpenFiles, files: &FileTable, who: Who, call
             who,
             *handle,
             Some(*offset),
-            data.bytes.len(),
+            data.len(),
         ),
         Call::Mkdir(_)
         | Call::Rmdir(_)

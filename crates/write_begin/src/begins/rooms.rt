@@ -1,5 +1,5 @@
 //! Room for a write, and its job.
-ghost use Rattle.std.specs.Prelude.{◌≡◌, ◌≢◌, ◌+◌, ◌-◌, ◌/◌, ◌<◌, ◌≤◌, ◌^◌, true, drop, length, Contains, None, Ok};
+ghost use Rattle.std.specs.Prelude.{◌≡◌, ◌≢◌, ◌+◌, ◌-◌, ◌*◌, ◌/◌, ◌<◌, ◌≤◌, ◌^◌, true, length, Contains, None, Ok};
 ghost use Rattle.block_counts.specs.Counts.{blocks_for};
 ghost use Rattle.block_counts.specs.declared.TheConstants.{LONGEST_FILE, LONGEST_WRITE};
 ghost use Rattle.write_plan.specs.pm_model.Powers.{is_on, Steps};
@@ -8,7 +8,9 @@ ghost use Rattle.write_plan.specs.file_table.Files.{size_in, spare_in};
 ghost use Rattle.write_begin.specs.Begins.{IsPaid};
 ghost use Rattle.write_begin.specs.Goes.{filled_in, FitsTarget, Goes, GoesWhole, HasRoom, IsBareAtRest, IsGone, IsJobBegun, KeepsMaps, reached_run};
 ghost use Rattle.data_route.specs.Writes.{plan_of};
+ghost use Rattle.in_place.specs.Gaps.{IsClearPaid};
 ghost use Rattle.in_place.specs.Holes.{absent_count, HasRuns, holes_need, IsHolesAnswer, IsHolesPaid};
+ghost use Rattle.in_place.specs.Placing.{CanPlace, IsPlaceAnswer};
 ghost use Rattle.in_place.specs.k_split_laws.k_split.MapChanges.{free_blocks_in};
 ghost use Rattle.write_plan.specs.eof_laws.block_io.Overwrites.{blocks_reached};
 ghost use Rattle.write_begin.specs.Rooms.{ArePresent, IsFrontFilled, IsTargetGone, LieWithin};
@@ -22,7 +24,7 @@ use data_route::{WritePlan, plan_write};
 use in_place::{Holes, fill_absent, put_in_place};
 use live_step_laws::{KSplit, StageFault, StageRun, Staging};
 use pm_lines::Power;
-use posix_types::{Mode, Who};
+use posix_types::{Data, Mode, Who};
 use std::alloc::{AllocError, Global};
 use write_plan::{Commit, FileTable};
 
@@ -50,7 +52,7 @@ fn begin_job(
     files: &FileTable,
     who: Who,
     target: Target,
-    bytes: &[u8],
+    bytes: &Data,
     run: StageRun,
 ) -> Result<WriteBegun, AllocError>
     requires ready { Ready k.old files.now who target bytes.now run }
@@ -82,7 +84,7 @@ fn begin_reserved(
     who: Who,
     mode: Mode,
     target: Target,
-    bytes: &[u8],
+    bytes: &Data,
     power: &mut Power,
 ) -> Result<WriteBegun, AllocError>
     requires on { is_on power.old ≡ true }
@@ -103,8 +105,9 @@ fn begin_reserved(
     laws::a_run_is_reserved_in_flight();
     laws::the_first_write_finds_its_blocks();
     let size = files.size(target.ino);
-    let plan = plan_write(mode, size, target.start, bytes.len() as u64);
-    let count = count_of(plan, target, bytes.len());
+    let len = bytes.len();
+    let plan = plan_write(mode, size, target.start, len as u64);
+    let count = count_of(plan, target, len);
     match staging.reserve(alloc, k, count, power) {
         Ok(run) => {
             match clear_gap(k, files, target.ino, target.start, plan.clean_tail, power) {
@@ -136,7 +139,7 @@ fn begin_staged(
     who: Who,
     mode: Mode,
     target: Target,
-    bytes: &[u8],
+    bytes: &Data,
     power: &mut Power,
 ) -> Result<WriteBegun, AllocError>
     requires on { is_on power.old ≡ true }
@@ -215,12 +218,24 @@ fn fill_front(
     }
 }
 
-// The bytes behind so many.
-fn bytes_behind(bytes: &[u8], skip: u64) -> &[u8]
-    requires { skip ≤ length bytes.now }
-    ensures { result.now ≡ drop skip bytes.now }
+// Writes bytes of a call into its file in place, from byte `at` on, and makes them durable.
+fn put_shared(
+    k: &mut KSplit,
+    files: &FileTable,
+    ino: u32,
+    at: u64,
+    bytes: &Data,
+    power: &mut Power,
+) -> Commit
+    requires on { is_on power.old ≡ true }
+    requires can { CanPlace k.old files.now ino at bytes.now }
+    ensures steps { Steps (577 * blocks_reached at (length bytes.now)) power.old power.new }
+    ensures took { is_on power.new ≡ true → 0 < length bytes.now
+        → TakesAStep power.old power.new }
+    ensures paid { IsClearPaid power.new result }
+    ensures answer { IsPlaceAnswer k.old k.new files.now ino at bytes.now result }
 {
-    &bytes[skip as usize..]
+    put_in_place(k, files, ino, at, bytes.as_slice(), power)
 }
 
 // Writes a write whose holes are filled: its staged part becomes a job; where it has none its bytes are written where they lie.
@@ -232,7 +247,7 @@ fn begin_filled(
     who: Who,
     mode: Mode,
     target: Target,
-    bytes: &[u8],
+    bytes: &Data,
     power: &mut Power,
 ) -> Result<WriteBegun, AllocError>
     requires on { is_on power.old ≡ true }
@@ -255,7 +270,7 @@ fn begin_filled(
     let _size = files.size(target.ino);
     let plan = plan_write(mode, target.size, target.start, bytes.len() as u64);
     match plan.staged {
-        None => match put_in_place(k, files, target.ino, target.start, bytes, power) {
+        None => match put_shared(k, files, target.ino, target.start, bytes, power) {
             Commit::Done => Ok(WriteBegun::Written),
             Commit::PowerLost => Ok(WriteBegun::PowerLost),
         },
@@ -266,8 +281,8 @@ fn begin_filled(
                 start,
                 size: target.size,
             };
-            let rest = bytes_behind(bytes, start - target.start);
-            begin_staged(alloc, k, staging, files, who, mode, part, rest, power)
+            let rest = bytes.behind((start - target.start) as usize)?;
+            begin_staged(alloc, k, staging, files, who, mode, part, &rest, power)
         }
     }
 }
@@ -282,7 +297,7 @@ pub(crate) fn begin_target(
     who: Who,
     mode: Mode,
     target: Target,
-    bytes: &[u8],
+    bytes: &Data,
     power: &mut Power,
 ) -> Result<WriteBegun, AllocError>
     requires on { is_on power.old ≡ true }

@@ -6,7 +6,7 @@ ghost use Rattle.write_begin.specs.Stages.{IsJobOf, IsStaged, Ready};
 use crate::laws;
 use live_step_laws::{Collection, FileTable, StageRun};
 use pm_lines::Loan;
-use posix_types::Who;
+use posix_types::{Data, Who};
 use std::alloc::{AllocError, Global};
 use write_jobs::{Job, KSplit, lend_blocks};
 use write_plan::{Target, draft_of, words_of_write};
@@ -41,7 +41,7 @@ pub fn stage_write(
     files: &FileTable,
     who: Who,
     target: Target,
-    bytes: &[u8],
+    bytes: &Data,
     run: StageRun,
 ) -> Result<StagedWrite, AllocError>
     requires { Ready k.old files.now who target bytes.now run }

@@ -18,7 +18,7 @@ fn put_bytes(call: &Call) -> &[u8]
     ensures { result.now ≡ put_bytes_of call.now }
 {
     match call {
-        Call::Write(_, put) | Call::Pwrite(_, _, put) => put.bytes.as_slice(),
+        Call::Write(_, put) | Call::Pwrite(_, _, put) => put.as_slice(),
         _ => &[],
     }
 }

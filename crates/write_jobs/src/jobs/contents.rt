@@ -3,15 +3,17 @@ ghost use Rattle.std.specs.Prelude.{◌≡◌, ◌≤◌, ◌<◌, ◌+◌, ◌*
 ghost use Rattle.pm_lines.specs.pm_model.Words.{word_at};
 ghost use Rattle.write_jobs.specs.Contents.{framed, framed_bytes, SpellBytes};
 
+use posix_types::Data;
 use std::marker::Model;
 
 /// What blocks of a file are to hold: its bytes in these blocks before byte `at` of them, new bytes from there on, and its
-/// bytes behind those; what is in none is zero. Contracts see the words that these bytes spell, 512 a block.
+/// bytes behind those; what is in none is zero. The new bytes are shared with the call. Contracts see the words that these
+/// bytes spell, 512 a block.
 #[derive(Debug, Drop)]
 pub struct StagedBytes {
     front: Vec<u8>,
     at: usize,
-    new: Vec<u8>,
+    new: Data,
     back: Vec<u8>,
     count: u32,
 }
@@ -22,7 +24,7 @@ impl Model for StagedBytes {
 
     ghost Value = { List ℕ };
 
-    ghost view = { λ a. words_in (framed a.front.items a.at a.new.items a.back.items) (512 * a.count) };
+    ghost view = { λ a. words_in (framed a.front.items a.at a.new a.back.items) (512 * a.count) };
 
     ghost invariant = { λ a. a.count ≤ 33 };
 }
@@ -131,12 +133,12 @@ fn bytes_are_small(bytes: &[u8])
 impl StagedBytes {
     /// What `count` blocks of a file, 33 at most, are to hold: its bytes in these blocks before byte `at` of them, the new
     /// bytes from there on, and its bytes behind those. It takes no memory.
-    pub fn of(front: Vec<u8>, at: usize, new: Vec<u8>, back: Vec<u8>, count: u32) -> StagedBytes
+    pub fn of(front: Vec<u8>, at: usize, new: Data, back: Vec<u8>, count: u32) -> StagedBytes
         requires { count ≤ 33 }
-        ensures { SpellBytes result (framed_bytes front.items at new.items back.items count) }
+        ensures { SpellBytes result (framed_bytes front.items at new back.items count) }
     {
         bytes_are_small(&front);
-        bytes_are_small(&new);
+        bytes_are_small(new.as_slice());
         bytes_are_small(&back);
         StagedBytes {
             front,
@@ -153,6 +155,6 @@ impl StagedBytes {
         ensures { (j : ℕ) → j < 512
             → slice_index result j ≡ slice_index self.now (512 * block + j) }
     {
-        block_at(&self.front, self.at, &self.new, &self.back, block)
+        block_at(&self.front, self.at, self.new.as_slice(), &self.back, block)
     }
 }

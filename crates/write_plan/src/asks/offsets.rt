@@ -43,7 +43,7 @@ pub fn move_by(tables: &mut OpenFiles, files: &FileTable, who: Who, call: &Call)
 {
     match call {
         Call::Write(handle, data) => {
-            move_offset(tables, files, who, *handle, data.bytes.len() as u64);
+            move_offset(tables, files, who, *handle, data.len() as u64);
         }
         Call::Mkdir(_)
         | Call::Rmdir(_)

@@ -9,11 +9,12 @@ ghost use Rattle.live_model.specs.write_jobs.Contents.{SpellBytes};
 ghost use Rattle.write_plan.specs.Words.{staged_in};
 
 use crate::drafts::{Collection, FileTable, KSplit, StagedBytes, Target, read_bytes};
+use posix_types::Data;
 use std::alloc::{AllocError, Global};
 
 /// What `count` blocks are to hold, from that of the target's first byte on: what the file has there, with the new bytes
-/// over it, and zeros behind both. The new bytes lie in these blocks, and are copied; of the file only what lies beside
-/// them there is read. No word is made.
+/// over it, and zeros behind both. The new bytes lie in these blocks, and are shared, not copied; of the file only what
+/// lies beside them there is read. No word is made.
 pub fn words_of_write(
     alloc: Global,
     k: &KSplit,
@@ -21,7 +22,7 @@ pub fn words_of_write(
     collection: &mut Collection,
     target: Target,
     count: u32,
-    new: &[u8],
+    new: &Data,
 ) -> Result<StagedBytes, AllocError>
     requires there { target.ino < length k.now.volume.inodes }
     requires below { target.ino < length files.now.sizes }
@@ -40,8 +41,9 @@ pub fn words_of_write(
     let size = files.size(target.ino);
     let overlay = files.overlay(target.ino);
     let at = target.start % 4096;
-    let end = target.start + new.len() as u64;
-    let rest = 4096 * u64::from(count) - at - new.len() as u64;
+    let len = new.len() as u64;
+    let end = target.start + len;
+    let rest = 4096 * u64::from(count) - at - len;
     let front = read_bytes(
         alloc,
         k,
@@ -53,6 +55,6 @@ pub fn words_of_write(
         collection,
     )?;
     let back = read_bytes(alloc, k, target.ino, size, end, rest, overlay, collection)?;
-    let new = Vec::from_slice(alloc, new)?;
+    let new = new.clone()?;
     Ok(StagedBytes::of(front, at as usize, new, back, count))
 }

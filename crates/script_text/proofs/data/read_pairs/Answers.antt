@@ -1,4 +1,5 @@
-use Rattle.std.proofs.Common.{drop, ap, sym, ◌∙◌, ◌++◌, ◌∷◌, [], ℕ, List}
+use Rattle.std.proofs.Common.{drop, ap, subst, sym, ◌∙◌, ◌++◌, ◌∷◌, [], ℕ, List}
+use Rattle.std.specs.Prelude.{◌≡◌, IfOk}
 use Rattle.std.specs.List.{list_all}
 use Rattle.script_text.specs.Words.{hex_bytes, is_hex_digit}
 use Rattle.script_text.proofs.Pairs.{all_behind, pair_more, pairs_end}
@@ -16,4 +17,7 @@ loop-rest-preserved c =
     }
 
 pub returns : goal.returns
-returns c = pairs_end c.args.word.now c.loop-rest.rest.now c.loop-rest.bytes.items c.loop-rest.invariant.read c.loop-rest-test.false
+returns c =
+    subst (λ (items : List ℕ). IfOk c.of.result (λ (bytes : List ℕ). bytes ≡ items))
+    (pairs_end c.args.word.now c.loop-rest.rest.now c.loop-rest.bytes.items c.loop-rest.invariant.read c.loop-rest-test.false)
+    c.of.ensures

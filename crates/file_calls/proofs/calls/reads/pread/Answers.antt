@@ -25,4 +25,4 @@ returns-in_ok-bytes-in-Some c power on =
     let o = c.in-Some.ensures.some in
     let t = c.args.files.now.tables in
     subst (λ x. IsEnded c.args.who (Call.Pread c.args.handle c.args.place c.args.count) c.args.k.now t c.args.data.now c.args.k.now t c.args.data.now power power (Ok x)) (sym c.answered-in-Some.ensures)
-    (pread_ended c.args.who c.args.handle c.args.k.now t c.args.data.now power on (description_in c.in-Some.opened) o.known o.may c.args.place c.args.count c.in_ok-bytes-in-Some.bytes.items c.in_ok-bytes-in-Some.ensures)
+    (pread_ended c.args.who c.args.handle c.args.k.now t c.args.data.now power on (description_in c.in-Some.opened) o.known o.may c.args.place c.args.count c.in_ok-bytes-in-Some.bytes c.in_ok-bytes-in-Some.ensures)

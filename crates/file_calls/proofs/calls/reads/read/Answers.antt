@@ -29,7 +29,7 @@ overflow_add-opened c =
     let files = c.args.data.now in
     let file = some.runs.open_are_files ino (handle_open c.args.files.now.tables c.args.who c.args.handle (description_in c.in-Some.opened) c.in-Some.ensures.some.known) in
     let small = size_small some.geometry_is c.args.k.now c.args.files.now.tables (with_files some.kept files) some.made some.state some.runs ino file in
-    let bytes = c.in_ok-bytes-in-Some.bytes.items in
+    let bytes = c.in_ok-bytes-in-Some.bytes in
     let counted : c.len.result ≡ length bytes = search rules in
     let many = read_len (size_in files ino) c.in-Some.opened.offset c.args.count in
     let long : length bytes ≡ many =
@@ -50,7 +50,7 @@ pub returns-in_ok-bytes-in-Some : goal.returns-in_ok-bytes-in-Some
 returns-in_ok-bytes-in-Some c power on =
     let o = c.in-Some.ensures.some in
     let t = c.args.files.now.tables in
-    let bytes = c.in_ok-bytes-in-Some.bytes.items in
+    let bytes = c.in_ok-bytes-in-Some.bytes in
     let counted : c.len.result ≡ length bytes = search rules in
     let moved = c.set_offset.ensures.tables
     ∙ ap (λ (n : ℕ). with_offset t (unwrap_or (description_number t.descriptors c.in-Some.opened.key) 0) (c.in-Some.opened.offset + n)) counted

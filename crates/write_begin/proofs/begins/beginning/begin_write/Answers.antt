@@ -1,11 +1,9 @@
-use Rattle.std.proofs.Common.{◌≡◌, ◌∙◌, true, length, ap, refl, subst, sym}
+use Rattle.std.proofs.Common.{◌≡◌, ◌∙◌, true, length, ap, refl, subst}
 use Rattle.write_plan.specs.layout_model.Places.{data_blocks}
 use Rattle.write_plan.specs.declared.asks.asking.Asked.{Asked}
 use Rattle.write_plan.specs.Asks.{IsAsked}
-use Rattle.data_route.specs.Writes.{plan_of}
 use Rattle.write_begin.specs.Stages.{with_parts}
-use Rattle.write_begin.specs.Goes.{filled_by, filled_in, FitsTarget, GoesWhole, HasRoom, KeepsMaps}
-use Rattle.write_begin.specs.Rooms.{IsTargetGone}
+use Rattle.write_begin.specs.Goes.{filled_by, filled_in, FitsTarget, KeepsMaps}
 use Rattle.write_begin.proofs.BeginsAsked.{has_room}
 use Rattle.write_begin.proofs.Begun.{answered_by, begun_by, ends_beside, goes_whole, own_is}
 use Rattle.write_begin.proofs.Maps.{maps_any, same_maps}
@@ -19,7 +17,7 @@ ask-requires c =
 pub returns-in-Answered-clause-begun : goal.returns-in-Answered-clause-begun
 returns-in-Answered-clause-begun c =
     let blocks : c.data_blocks-blocks.result ≡ data_blocks c.args.k.now.volume.geometry = c.data_blocks-blocks.ensures.number ∙ ap data_blocks c.geometry.ensures in
-    let len = ap length (c.as_slice-new.ensures.value ∙ c.bytes.view_is) in
+    let len = c.len.ensures in
     let asked : IsAsked c.args.mode c.args.tables.now.tables c.args.files.now c.args.who c.args.handle c.args.offset (length c.args.bytes.now) (data_blocks c.args.k.now.volume.geometry) c.args.needs (Asked.Answered c.in-Answered.outcome) =
     subst (λ n. IsAsked c.args.mode c.args.tables.now.tables c.args.files.now c.args.who c.args.handle c.args.offset (length c.args.bytes.now) n c.args.needs (Asked.Answered c.in-Answered.outcome)) blocks
     (subst (λ m. IsAsked c.args.mode c.args.tables.now.tables c.args.files.now c.args.who c.args.handle c.args.offset m c.data_blocks-blocks.result c.args.needs (Asked.Answered c.in-Answered.outcome)) len c.in-Answered.ensures) in
@@ -28,7 +26,7 @@ returns-in-Answered-clause-begun c =
 pub returns-in-Full-clause-begun : goal.returns-in-Full-clause-begun
 returns-in-Full-clause-begun c =
     let blocks : c.data_blocks-blocks.result ≡ data_blocks c.args.k.now.volume.geometry = c.data_blocks-blocks.ensures.number ∙ ap data_blocks c.geometry.ensures in
-    let len = ap length (c.as_slice-new.ensures.value ∙ c.bytes.view_is) in
+    let len = c.len.ensures in
     let asked : IsAsked c.args.mode c.args.tables.now.tables c.args.files.now c.args.who c.args.handle c.args.offset (length c.args.bytes.now) (data_blocks c.args.k.now.volume.geometry) c.args.needs (Asked.Full c.in-Full.need c.in-Full.left) =
     subst (λ n. IsAsked c.args.mode c.args.tables.now.tables c.args.files.now c.args.who c.args.handle c.args.offset (length c.args.bytes.now) n c.args.needs (Asked.Full c.in-Full.need c.in-Full.left)) blocks
     (subst (λ m. IsAsked c.args.mode c.args.tables.now.tables c.args.files.now c.args.who c.args.handle c.args.offset m c.data_blocks-blocks.result c.args.needs (Asked.Full c.in-Full.need c.in-Full.left)) len c.in-Full.ensures) in
@@ -37,31 +35,28 @@ returns-in-Full-clause-begun c =
 pub begin_target-requires-clause-goes : goal.begin_target-requires-clause-goes
 begin_target-requires-clause-goes c =
     let blocks : c.data_blocks-blocks.result ≡ data_blocks c.args.k.now.volume.geometry = c.data_blocks-blocks.ensures.number ∙ ap data_blocks c.geometry.ensures in
-    let len = ap length (c.as_slice-new.ensures.value ∙ c.bytes.view_is) in
+    let len = c.len.ensures in
     let asked : IsAsked c.args.mode c.args.tables.now.tables c.args.files.now c.args.who c.args.handle c.args.offset (length c.args.bytes.now) (data_blocks c.args.k.now.volume.geometry) c.args.needs (Asked.Goes c.in-Goes.target) =
     subst (λ n. IsAsked c.args.mode c.args.tables.now.tables c.args.files.now c.args.who c.args.handle c.args.offset (length c.args.bytes.now) n c.args.needs (Asked.Goes c.in-Goes.target)) blocks
     (subst (λ m. IsAsked c.args.mode c.args.tables.now.tables c.args.files.now c.args.who c.args.handle c.args.offset m c.data_blocks-blocks.result c.args.needs (Asked.Goes c.in-Goes.target)) len c.in-Goes.ensures) in
-    subst (GoesWhole c.args.mode c.args.k.now c.args.staging.now c.args.files.now c.args.who c.in-Goes.target) (sym (c.as_slice-new.ensures.value ∙ c.bytes.view_is))
     (goes_whole c.kept_numbers_are_those_of_the_state.ensures.sizes c.kept_numbers_are_those_of_the_state.ensures.room c.numbers_are_those_of_the_state.ensures.rows c.numbers_are_those_of_the_state.ensures.starts c.numbers_are_those_of_the_state.ensures.needs c.args.mode c.args.k.now c.args.tables.now.tables c.args.staging.now c.args.files.now c.args.who c.args.handle c.args.offset c.args.bytes.now c.args.needs asked.0 c.in-Goes.target asked.2 asked.1 c.requires.found)
 
 pub begin_target-requires-clause-target : goal.begin_target-requires-clause-target
 begin_target-requires-clause-target c =
     let blocks : c.data_blocks-blocks.result ≡ data_blocks c.args.k.now.volume.geometry = c.data_blocks-blocks.ensures.number ∙ ap data_blocks c.geometry.ensures in
-    let len = ap length (c.as_slice-new.ensures.value ∙ c.bytes.view_is) in
+    let len = c.len.ensures in
     let asked : IsAsked c.args.mode c.args.tables.now.tables c.args.files.now c.args.who c.args.handle c.args.offset (length c.args.bytes.now) (data_blocks c.args.k.now.volume.geometry) c.args.needs (Asked.Goes c.in-Goes.target) =
     subst (λ n. IsAsked c.args.mode c.args.tables.now.tables c.args.files.now c.args.who c.args.handle c.args.offset (length c.args.bytes.now) n c.args.needs (Asked.Goes c.in-Goes.target)) blocks
     (subst (λ m. IsAsked c.args.mode c.args.tables.now.tables c.args.files.now c.args.who c.args.handle c.args.offset m c.data_blocks-blocks.result c.args.needs (Asked.Goes c.in-Goes.target)) len c.in-Goes.ensures) in
-    subst (λ xs. FitsTarget c.args.files.now c.in-Goes.target (length xs)) (sym (c.as_slice-new.ensures.value ∙ c.bytes.view_is))
     (let is = asked.2 in let fits : FitsTarget c.args.files.now c.in-Goes.target (length c.args.bytes.now) = record { some = is.some; most = is.most; fits = is.fits; size = is.size_is } in fits)
 
 pub begin_target-requires-clause-room : goal.begin_target-requires-clause-room
 begin_target-requires-clause-room c =
     let blocks : c.data_blocks-blocks.result ≡ data_blocks c.args.k.now.volume.geometry = c.data_blocks-blocks.ensures.number ∙ ap data_blocks c.geometry.ensures in
-    let len = ap length (c.as_slice-new.ensures.value ∙ c.bytes.view_is) in
+    let len = c.len.ensures in
     let asked : IsAsked c.args.mode c.args.tables.now.tables c.args.files.now c.args.who c.args.handle c.args.offset (length c.args.bytes.now) (data_blocks c.args.k.now.volume.geometry) c.args.needs (Asked.Goes c.in-Goes.target) =
     subst (λ n. IsAsked c.args.mode c.args.tables.now.tables c.args.files.now c.args.who c.args.handle c.args.offset (length c.args.bytes.now) n c.args.needs (Asked.Goes c.in-Goes.target)) blocks
     (subst (λ m. IsAsked c.args.mode c.args.tables.now.tables c.args.files.now c.args.who c.args.handle c.args.offset m c.data_blocks-blocks.result c.args.needs (Asked.Goes c.in-Goes.target)) len c.in-Goes.ensures) in
-    subst (λ xs. HasRoom c.args.mode c.args.k.now.volume c.args.files.now c.in-Goes.target (length xs)) (sym (c.as_slice-new.ensures.value ∙ c.bytes.view_is))
     (has_room c.args.mode c.args.tables.now.tables c.args.files.now c.args.who c.args.handle c.args.offset (length c.args.bytes.now) c.in-Goes.target asked.2 c.args.k.now.volume c.args.needs c.requires.ends asked.1)
 
 pub returns-in-Answered-clause-keeps : goal.returns-in-Answered-clause-keeps
@@ -73,7 +68,7 @@ returns-in-Full-clause-keeps c = λ on. maps_any c.args.k.now.volume c.args.k.no
 pub returns-in-Goes-clause-keeps : goal.returns-in-Goes-clause-keeps
 returns-in-Goes-clause-keeps c =
     let blocks : c.data_blocks-blocks.result ≡ data_blocks c.args.k.now.volume.geometry = c.data_blocks-blocks.ensures.number ∙ ap data_blocks c.geometry.ensures in
-    let len = ap length (c.as_slice-new.ensures.value ∙ c.bytes.view_is) in
+    let len = c.len.ensures in
     let asked : IsAsked c.args.mode c.args.tables.now.tables c.args.files.now c.args.who c.args.handle c.args.offset (length c.args.bytes.now) (data_blocks c.args.k.now.volume.geometry) c.args.needs (Asked.Goes c.in-Goes.target) =
     subst (λ n. IsAsked c.args.mode c.args.tables.now.tables c.args.files.now c.args.who c.args.handle c.args.offset (length c.args.bytes.now) n c.args.needs (Asked.Goes c.in-Goes.target)) blocks
     (subst (λ m. IsAsked c.args.mode c.args.tables.now.tables c.args.files.now c.args.who c.args.handle c.args.offset m c.data_blocks-blocks.result c.args.needs (Asked.Goes c.in-Goes.target)) len c.in-Goes.ensures) in
@@ -84,13 +79,12 @@ returns-in-Goes-clause-keeps c =
 pub returns-in-Goes-clause-begun : goal.returns-in-Goes-clause-begun
 returns-in-Goes-clause-begun c =
     let blocks : c.data_blocks-blocks.result ≡ data_blocks c.args.k.now.volume.geometry = c.data_blocks-blocks.ensures.number ∙ ap data_blocks c.geometry.ensures in
-    let len = ap length (c.as_slice-new.ensures.value ∙ c.bytes.view_is) in
+    let len = c.len.ensures in
     let asked : IsAsked c.args.mode c.args.tables.now.tables c.args.files.now c.args.who c.args.handle c.args.offset (length c.args.bytes.now) (data_blocks c.args.k.now.volume.geometry) c.args.needs (Asked.Goes c.in-Goes.target) =
     subst (λ n. IsAsked c.args.mode c.args.tables.now.tables c.args.files.now c.args.who c.args.handle c.args.offset (length c.args.bytes.now) n c.args.needs (Asked.Goes c.in-Goes.target)) blocks
     (subst (λ m. IsAsked c.args.mode c.args.tables.now.tables c.args.files.now c.args.who c.args.handle c.args.offset m c.data_blocks-blocks.result c.args.needs (Asked.Goes c.in-Goes.target)) len c.in-Goes.ensures) in
     begun_by c.kept_numbers_are_those_of_the_state.ensures.sizes c.kept_numbers_are_those_of_the_state.ensures.room c.numbers_are_those_of_the_state.ensures.rows c.numbers_are_those_of_the_state.ensures.starts c.numbers_are_those_of_the_state.ensures.needs c.args.mode c.args.k.now c.args.tables.now.tables c.args.staging.now c.args.files.now c.args.who c.args.handle c.args.offset c.args.bytes.now c.args.needs asked.0 c.in-Goes.target asked.2 asked.1 c.requires.mode c.begin_target.new.k c.begin_target.new.staging c.begin_target.new.files c.begin_target.new.power c.begin_target.result c.begin_target.ensures.paid
-    (subst (λ xs. IsTargetGone c.args.mode c.args.k.now c.begin_target.new.k c.args.staging.now c.begin_target.new.staging c.args.files.now c.begin_target.new.files c.args.who c.in-Goes.target xs (plan_of c.args.mode c.in-Goes.target.size c.in-Goes.target.start (length xs)) c.begin_target.new.power c.begin_target.result) (c.as_slice-new.ensures.value ∙ c.bytes.view_is)
-    c.begin_target.ensures.gone)
+    c.begin_target.ensures.gone
 
 pub returns-in-Answered-clause-took : goal.returns-in-Answered-clause-took
 returns-in-Answered-clause-took c written = cc

@@ -1,6 +1,7 @@
 use Rattle.std.proofs.Common.{◌≡◌, ◌∙◌, ℕ, length, None, ap, arith, false, refl, subst, sym, true}
 use Rattle.data_route.specs.declared.writes.WritePlan.{WritePlan}
 use Rattle.data_route.specs.Writes.{plan_of}
+use Rattle.write_plan.specs.eof_laws.block_io.Overwrites.{blocks_reached}
 use Rattle.write_plan.specs.file_table.Files.{size_in}
 use Rattle.write_plan.specs.image_model.Volume.{Volume}
 use Rattle.write_plan.specs.k_split_model.View.{View}
@@ -15,12 +16,12 @@ use Rattle.write_begin.proofs.begins.rooms.begin_reserved.Goals as goal
 
 pub count_of-count-requires-clause-plan : goal.count_of-count-requires-clause-plan
 count_of-count-requires-clause-plan c =
-    ap (λ (p : WritePlan). p.staged) c.plan_write-plan.ensures
-    ∙ (ap (λ n. (plan_of c.args.mode n c.args.target.start (length c.args.bytes.now)).staged) (c.size-size.ensures.size ∙ sym c.requires.target.size) ∙ c.requires.staged)
+    ap (λ (p : WritePlan). p.staged) (c.plan_write-plan.ensures ∙ ap (λ (n : ℕ). plan_of c.args.mode c.size-size.result c.args.target.start n) c.len-len.ensures)
+    ∙ (ap (λ n. (plan_of c.args.mode n c.args.target.start (length c.args.bytes.now)).staged) (c.size-size.ensures.size ∙ sym c.requires.target.size) ∙ c.requires.staged ∙ ap (λ (n : ℕ). reached_run c.args.target n) (sym c.len-len.ensures))
 
 pub clear_gap-requires-clause-plan : goal.clear_gap-requires-clause-plan
 clear_gap-requires-clause-plan c =
-    ap (λ (p : WritePlan). p.clean_tail) c.plan_write-plan.ensures
+    ap (λ (p : WritePlan). p.clean_tail) (c.plan_write-plan.ensures ∙ ap (λ (n : ℕ). plan_of c.args.mode c.size-size.result c.args.target.start n) c.len-len.ensures)
     ∙ (ap (λ n. (plan_of c.args.mode n c.args.target.start (length c.args.bytes.now)).clean_tail) c.size-size.ensures.size
     ∙ plan_cleans c.args.mode (size_in c.args.files.now c.args.target.ino) c.args.target.start (length c.args.bytes.now) c.requires.target.some)
 
@@ -43,7 +44,7 @@ pub begin_job-requires-clause-ready : goal.begin_job-requires-clause-ready
 begin_job-requires-clause-ready c =
     ready_of c.args.mode c.args.k.now c.reserve.new.k c.args.staging.now c.reserve.new.self c.args.files.now c.args.who c.args.target c.args.bytes.now c.count_of-count.result c.in-Ok.run' c.a_run_is_reserved_in_flight.ensures.done
     c.count_of-count.ensures.least c.count_of-count.ensures.most c.in-Ok.ensures.answer c.clear_gap.new.k c.in-Done.ensures.answer c.requires.target (omega (arith, c.size-size.ensures.size, c.size-size.ensures.small, c.requires.target.size))
-    c.count_of-count.ensures.count c.requires.spare c.requires.goes
+    (c.count_of-count.ensures.count ∙ ap (λ (n : ℕ). blocks_reached c.args.target.start n) c.len-len.ensures) c.requires.spare c.requires.goes
 
 pub begin_job-requires-clause-out : goal.begin_job-requires-clause-out
 begin_job-requires-clause-out c =
@@ -62,7 +63,7 @@ pub returns-in-Done-clause-gone : goal.returns-in-Done-clause-gone
 returns-in-Done-clause-gone c =
     gone_ok c.args.mode c.args.k.now c.reserve.new.k c.clear_gap.new.k c.begin_job.new.k c.args.staging.now c.reserve.new.self c.begin_job.new.staging c.args.files.now c.args.who c.args.target c.args.bytes.now c.count_of-count.result c.in-Ok.run'
     c.a_run_is_reserved_in_flight.ensures.done c.count_of-count.ensures.least c.count_of-count.ensures.most c.in-Ok.ensures.answer c.in-Done.ensures.answer c.requires.target
-    (omega (arith, c.size-size.ensures.size, c.size-size.ensures.small, c.requires.target.size)) c.count_of-count.ensures.count c.requires.spare c.requires.goes c.begin_job.result c.begin_job.ensures
+    (omega (arith, c.size-size.ensures.size, c.size-size.ensures.small, c.requires.target.size)) (c.count_of-count.ensures.count ∙ ap (λ (n : ℕ). blocks_reached c.args.target.start n) c.len-len.ensures) c.requires.spare c.requires.goes c.begin_job.result c.begin_job.ensures
 
 pub returns-in-Err-PowerLost-clause-gone : goal.returns-in-Err-PowerLost-clause-gone
 returns-in-Err-PowerLost-clause-gone c =
@@ -76,7 +77,7 @@ pub unreachable-requires : goal.unreachable-requires
 unreachable-requires c =
     let answer = rw c.in-Err-NoRoom.field-0-is at c.in-Err-NoRoom.ensures.answer in
     first_fits c.args.mode c.args.k.now c.args.staging.now c.args.files.now c.args.who c.args.target c.args.bytes.now c.count_of-count.result c.in-Err-NoRoom.need c.in-Err-NoRoom.room c.the_first_write_finds_its_blocks.ensures c.requires.goes c.requires.room
-    c.requires.staged c.count_of-count.ensures.count (sym answer.1.staging ∙ c.if-is_fresh.ensures.0 refl) answer.0
+    c.requires.staged (c.count_of-count.ensures.count ∙ ap (λ (n : ℕ). blocks_reached c.args.target.start n) c.len-len.ensures) (sym answer.1.staging ∙ c.if-is_fresh.ensures.0 refl) answer.0
 
 pub returns-else-is_fresh-clause-keeps : goal.returns-else-is_fresh-clause-keeps
 returns-else-is_fresh-clause-keeps c = λ on.
@@ -88,7 +89,7 @@ returns-else-is_fresh-clause-gone c =
     let answer = rw c.in-Err-NoRoom.field-0-is at c.in-Err-NoRoom.ensures.answer in
     subst (λ (n : ℕ). LacksRun c.args.mode c.args.k.now c.reserve.new.k c.args.staging.now c.reserve.new.self c.args.files.now c.args.files.now c.args.who c.args.target c.args.bytes.now (reached_run c.args.target (length c.args.bytes.now)) n c.from-in-Err-NoRoom.result) (sym (c.from.ensures ∙ c.in-Err-NoRoom.need-is))
     (subst (λ (m : ℕ). LacksRun c.args.mode c.args.k.now c.reserve.new.k c.args.staging.now c.reserve.new.self c.args.files.now c.args.files.now c.args.who c.args.target c.args.bytes.now (reached_run c.args.target (length c.args.bytes.now)) c.in-Err-NoRoom.need m) (sym (c.from-in-Err-NoRoom.ensures ∙ c.in-Err-NoRoom.room-is))
-    (lacks_run c.args.mode c.args.k.now c.reserve.new.k c.args.staging.now c.reserve.new.self c.args.files.now c.args.who c.args.target c.args.bytes.now c.count_of-count.result c.in-Err-NoRoom.need c.in-Err-NoRoom.room c.count_of-count.ensures.count
+    (lacks_run c.args.mode c.args.k.now c.reserve.new.k c.args.staging.now c.reserve.new.self c.args.files.now c.args.who c.args.target c.args.bytes.now c.count_of-count.result c.in-Err-NoRoom.need c.in-Err-NoRoom.room (c.count_of-count.ensures.count ∙ ap (λ (n : ℕ). blocks_reached c.args.target.start n) c.len-len.ensures)
     (late_of c.args.staging.now c.reserve.new.self answer.1.staging c.requires.bare (λ fresh. (let never : false ≡ true = c.if-is_fresh.ensures.1 fresh in cc))) answer.0 answer.1))
 
 pub reserve-requires-clause-unbatched : goal.reserve-requires-clause-unbatched

@@ -27,7 +27,7 @@ fill_front-requires-clause-has c = has_runs c.args.mode c.args.k.now c.args.stag
 
 pub fill_front-requires-clause-within : goal.fill_front-requires-clause-within
 fill_front-requires-clause-within c =
-    subst (LieWithin c.args.files.now c.args.target.ino) (sym (ap (λ (p : WritePlan). p.in_place) c.plan_write-plan.ensures))
+    subst (LieWithin c.args.files.now c.args.target.ino) (sym (ap (λ (p : WritePlan). p.in_place) (c.plan_write-plan.ensures ∙ ap (λ (n : ℕ). plan_of c.args.mode c.args.target.size c.args.target.start n) c.len.ensures)))
     (places_within c.args.mode c.args.files.now c.args.target.ino c.args.target.size c.args.target.start (length c.args.bytes.now) c.requires.mode c.requires.target.some c.requires.target.most c.requires.target.fits c.requires.target.size)
 
 -- ---- the holes are not filled
@@ -35,17 +35,17 @@ fill_front-requires-clause-within c =
 pub returns-in_err-fill_front-clause-keeps : goal.returns-in_err-fill_front-clause-keeps
 returns-in_err-fill_front-clause-keeps c = λ on.
     let part : FillsPart c.args.k.now c.fill_front.new.k c.args.staging.now c.args.files.now c.args.target.ino (plan_of c.args.mode c.args.target.size c.args.target.start (length c.args.bytes.now)).in_place =
-    subst (FillsPart c.args.k.now c.fill_front.new.k c.args.staging.now c.args.files.now c.args.target.ino) (ap (λ (p : WritePlan). p.in_place) c.plan_write-plan.ensures) c.in_err-fill_front.ensures.answer in
+    subst (FillsPart c.args.k.now c.fill_front.new.k c.args.staging.now c.args.files.now c.args.target.ino) (ap (λ (p : WritePlan). p.in_place) (c.plan_write-plan.ensures ∙ ap (λ (n : ℕ). plan_of c.args.mode c.args.target.size c.args.target.start n) c.len.ensures)) c.in_err-fill_front.ensures.answer in
     part_maps c.args.k.now c.fill_front.new.k c.args.staging.now c.args.files.now c.args.target.ino c.args.mode (plan_of c.args.mode c.args.target.size c.args.target.start (length c.args.bytes.now)).in_place
     (λ strict. ap (λ (m : Mode). (plan_of m c.args.target.size c.args.target.start (length c.args.bytes.now)).in_place) strict ∙ strict_places_none c.args.target.size c.args.target.start (length c.args.bytes.now) c.requires.target.some) part
 
 pub returns-in_err-fill_front-clause-steps_strict : goal.returns-in_err-fill_front-clause-steps_strict
 returns-in_err-fill_front-clause-steps_strict c = λ strict.
-    no_steps 65536 c.args.power.now c.fill_front.new.power (strict_spared c.args.mode c.args.target.size c.args.target.start (length c.args.bytes.now) c.plan_write-plan.result c.args.power.now c.fill_front.new.power c.requires.target.some c.plan_write-plan.ensures c.in_err-fill_front.ensures.spared strict)
+    no_steps 65536 c.args.power.now c.fill_front.new.power (strict_spared c.args.mode c.args.target.size c.args.target.start (length c.args.bytes.now) c.plan_write-plan.result c.args.power.now c.fill_front.new.power c.requires.target.some (c.plan_write-plan.ensures ∙ ap (λ (n : ℕ). plan_of c.args.mode c.args.target.size c.args.target.start n) c.len.ensures) c.in_err-fill_front.ensures.spared strict)
 
 pub returns-in-PowerLost-clause-steps_strict : goal.returns-in-PowerLost-clause-steps_strict
 returns-in-PowerLost-clause-steps_strict c = λ strict.
-    no_steps 65536 c.args.power.now c.fill_front.new.power (strict_spared c.args.mode c.args.target.size c.args.target.start (length c.args.bytes.now) c.plan_write-plan.result c.args.power.now c.fill_front.new.power c.requires.target.some c.plan_write-plan.ensures c.in_ok-fill_front.ensures.spared strict)
+    no_steps 65536 c.args.power.now c.fill_front.new.power (strict_spared c.args.mode c.args.target.size c.args.target.start (length c.args.bytes.now) c.plan_write-plan.result c.args.power.now c.fill_front.new.power c.requires.target.some (c.plan_write-plan.ensures ∙ ap (λ (n : ℕ). plan_of c.args.mode c.args.target.size c.args.target.start n) c.len.ensures) c.in_ok-fill_front.ensures.spared strict)
 
 pub unreachable-requires : goal.unreachable-requires
 unreachable-requires c =
@@ -54,7 +54,7 @@ unreachable-requires c =
     c.requires.room.ends
     (places_within c.args.mode c.args.files.now c.args.target.ino c.args.target.size c.args.target.start (length c.args.bytes.now) c.requires.mode c.requires.target.some c.requires.target.most c.requires.target.fits c.requires.target.size)
     (c.if-is_fresh.ensures.0 refl)
-    (subst (λ (o : Option (ℕ × ℕ)). LacksFor c.args.k.now c.fill_front.new.k c.args.staging.now c.args.files.now c.args.target.ino o c.in-Lacking.need c.in-Lacking.room) (ap (λ (p : WritePlan). p.in_place) c.plan_write-plan.ensures) answer)
+    (subst (λ (o : Option (ℕ × ℕ)). LacksFor c.args.k.now c.fill_front.new.k c.args.staging.now c.args.files.now c.args.target.ino o c.in-Lacking.need c.in-Lacking.room) (ap (λ (p : WritePlan). p.in_place) (c.plan_write-plan.ensures ∙ ap (λ (n : ℕ). plan_of c.args.mode c.args.target.size c.args.target.start n) c.len.ensures)) answer)
 
 pub returns-else-is_fresh-clause-keeps : goal.returns-else-is_fresh-clause-keeps
 returns-else-is_fresh-clause-keeps c = λ on.
@@ -65,7 +65,7 @@ pub returns-else-is_fresh-clause-gone : goal.returns-else-is_fresh-clause-gone
 returns-else-is_fresh-clause-gone c =
     let answer = rw c.in-Lacking.is at c.in_ok-fill_front.ensures.answer in
     inl (
-      subst (λ (o : Option (ℕ × ℕ)). LacksFor c.args.k.now c.fill_front.new.k c.args.staging.now c.args.files.now c.args.target.ino o c.in-Lacking.need c.in-Lacking.room) (ap (λ (p : WritePlan). p.in_place) c.plan_write-plan.ensures) answer,
+      subst (λ (o : Option (ℕ × ℕ)). LacksFor c.args.k.now c.fill_front.new.k c.args.staging.now c.args.files.now c.args.target.ino o c.in-Lacking.need c.in-Lacking.room) (ap (λ (p : WritePlan). p.in_place) (c.plan_write-plan.ensures ∙ ap (λ (n : ℕ). plan_of c.args.mode c.args.target.size c.args.target.start n) c.len.ensures)) answer,
       late_of c.args.staging.now c.args.staging.now refl c.requires.bare (λ fresh. (let never : false ≡ true = c.if-is_fresh.ensures.1 fresh in cc)),
       refl,
       refl,
@@ -88,12 +88,12 @@ pub begin_filled-requires-clause-present : goal.begin_filled-requires-clause-pre
 begin_filled-requires-clause-present c =
     let answer = rw c.in-Filled.is at c.in_ok-fill_front.ensures.answer in
     are_present c.args.k.now c.fill_front.new.k c.args.staging.now c.args.files.now c.args.target.ino (plan_of c.args.mode c.args.target.size c.args.target.start (length c.args.bytes.now)).in_place
-    (subst (FillsFor c.args.k.now c.fill_front.new.k c.args.staging.now c.args.files.now c.args.target.ino) (ap (λ (p : WritePlan). p.in_place) c.plan_write-plan.ensures) answer.0)
+    (subst (FillsFor c.args.k.now c.fill_front.new.k c.args.staging.now c.args.files.now c.args.target.ino) (ap (λ (p : WritePlan). p.in_place) (c.plan_write-plan.ensures ∙ ap (λ (n : ℕ). plan_of c.args.mode c.args.target.size c.args.target.start n) c.len.ensures)) answer.0)
 
 pub returns-in-Filled-clause-steps_strict : goal.returns-in-Filled-clause-steps_strict
 returns-in-Filled-clause-steps_strict c = λ strict.
     subst (λ (p : Supply). Steps 65536 p c.begin_filled.new.power)
-    (strict_spared c.args.mode c.args.target.size c.args.target.start (length c.args.bytes.now) c.plan_write-plan.result c.args.power.now c.fill_front.new.power c.requires.target.some c.plan_write-plan.ensures c.in_ok-fill_front.ensures.spared strict) c.begin_filled.ensures.steps
+    (strict_spared c.args.mode c.args.target.size c.args.target.start (length c.args.bytes.now) c.plan_write-plan.result c.args.power.now c.fill_front.new.power c.requires.target.some (c.plan_write-plan.ensures ∙ ap (λ (n : ℕ). plan_of c.args.mode c.args.target.size c.args.target.start n) c.len.ensures) c.in_ok-fill_front.ensures.spared strict) c.begin_filled.ensures.steps
 
 pub returns-in-Filled-clause-took : goal.returns-in-Filled-clause-took
 returns-in-Filled-clause-took c written given some =
@@ -106,16 +106,16 @@ returns-in-Filled-clause-keeps c = λ on.
     let answer = rw c.in-Filled.is at c.in_ok-fill_front.ensures.answer in
     maps_then c.args.k.now.volume c.fill_front.new.k.volume c.begin_filled.new.k.volume c.args.files.now c.args.files.now c.begin_filled.new.files (filled_in c.args.mode c.args.target.ino)
     (filled_maps c.args.k.now c.fill_front.new.k c.args.staging.now c.args.files.now c.args.target.ino c.args.mode c.plan_write-plan.result.in_place
-    (λ strict. (ap (λ (p : WritePlan). p.in_place) c.plan_write-plan.ensures) ∙ (ap (λ (m : Mode). (plan_of m c.args.target.size c.args.target.start (length c.args.bytes.now)).in_place) strict ∙ strict_places_none c.args.target.size c.args.target.start (length c.args.bytes.now) c.requires.target.some)) answer.0)
+    (λ strict. (ap (λ (p : WritePlan). p.in_place) (c.plan_write-plan.ensures ∙ ap (λ (n : ℕ). plan_of c.args.mode c.args.target.size c.args.target.start n) c.len.ensures)) ∙ (ap (λ (m : Mode). (plan_of m c.args.target.size c.args.target.start (length c.args.bytes.now)).in_place) strict ∙ strict_places_none c.args.target.size c.args.target.start (length c.args.bytes.now) c.requires.target.some)) answer.0)
     (c.begin_filled.ensures.keeps on)
 
 pub returns-in-Filled-clause-gone : goal.returns-in-Filled-clause-gone
 returns-in-Filled-clause-gone c =
     let answer = rw c.in-Filled.is at c.in_ok-fill_front.ensures.answer in
     inr (record {
-      enough = subst (λ (o : Option (ℕ × ℕ)). (need left : ℕ) → ¬ LacksFor c.args.k.now c.args.k.now c.args.staging.now c.args.files.now c.args.target.ino o need left) (ap (λ (p : WritePlan). p.in_place) c.plan_write-plan.ensures) answer.1;
+      enough = subst (λ (o : Option (ℕ × ℕ)). (need left : ℕ) → ¬ LacksFor c.args.k.now c.args.k.now c.args.staging.now c.args.files.now c.args.target.ino o need left) (ap (λ (p : WritePlan). p.in_place) (c.plan_write-plan.ensures ∙ ap (λ (n : ℕ). plan_of c.args.mode c.args.target.size c.args.target.start n) c.len.ensures)) answer.1;
       middle = c.fill_front.new.k;
-      filled = subst (FillsFor c.args.k.now c.fill_front.new.k c.args.staging.now c.args.files.now c.args.target.ino) (ap (λ (p : WritePlan). p.in_place) c.plan_write-plan.ensures) answer.0;
+      filled = subst (FillsFor c.args.k.now c.fill_front.new.k c.args.staging.now c.args.files.now c.args.target.ino) (ap (λ (p : WritePlan). p.in_place) (c.plan_write-plan.ensures ∙ ap (λ (n : ℕ). plan_of c.args.mode c.args.target.size c.args.target.start n) c.len.ensures)) answer.0;
       below = c.begin_filled.ensures.keeps;
       gone = c.begin_filled.ensures.gone;
     })

@@ -17,11 +17,11 @@ returns-clause-words c =
     let start : ℕ = c.args.target.start in
     let len : ℕ = length c.args.new.now in
     subst (λ (bytes : List ℕ). SpellBytes c.of.result bytes)
-    ((λ i. framed_bytes c.in_ok-front.front.items (start % 4096) (c.in_ok-new.ensures.items i) c.in_ok-back.back.items c.args.count) ∙ framed_in c.args.k.now c.args.files.now c.args.target.ino start c.args.count c.args.new.now c.in_ok-front.front.items c.in_ok-back.back.items c.requires.fits
+    ((λ i. framed_bytes c.in_ok-front.front.items (start % 4096) (c.in_ok-new.ensures.cases i) c.in_ok-back.back.items c.args.count) ∙ framed_in c.args.k.now c.args.files.now c.args.target.ino start c.args.count c.args.new.now c.in_ok-front.front.items c.in_ok-back.back.items c.requires.fits
     (c.in_ok-front.ensures.bytes
     ∙ (λ i. bytes_in c.args.k.now.volume (words_of c.args.k.now.cells) (c.overlay-overlay.ensures i) c.args.target.ino (start - start % 4096) (read_len (c.size-size.ensures.size i) (start - start % 4096) (start % 4096))))
     (c.in_ok-back.ensures.bytes
-    ∙ (λ i. bytes_in c.args.k.now.volume (words_of c.args.k.now.cells) (c.overlay-overlay.ensures i) c.args.target.ino (start + len) (read_len (c.size-size.ensures.size i) (start + len) (4096 * c.from.ensures i - start % 4096 - len)))))
+    ∙ (λ i. bytes_in c.args.k.now.volume (words_of c.args.k.now.cells) (c.overlay-overlay.ensures i) c.args.target.ino (start + c.len-len.ensures i) (read_len (c.size-size.ensures.size i) (start + c.len-len.ensures i) (4096 * c.from.ensures i - start % 4096 - c.len-len.ensures i)))))
     c.of.ensures
 
 pub returns-clause-others : goal.returns-clause-others

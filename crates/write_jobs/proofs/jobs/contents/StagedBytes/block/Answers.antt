@@ -8,16 +8,16 @@ use Rattle.write_jobs.proofs.jobs.contents.StagedBytes.block.Goals as goal
 pub block_at-requires : goal.block_at-requires
 block_at-requires c =
     let inside = c.self.inside in
-    let size = length-words (framed inside.front.items inside.at inside.new.items inside.back.items) (512 * inside.count) in
+    let size = length-words (framed inside.front.items inside.at inside.new inside.back.items) (512 * inside.count) in
     let all = ap (λ (words : List ℕ). length words) c.self.view_is in
     omega (arith, c.requires, c.self.invariant, size, all)
 
 pub returns : goal.returns
 returns c j low =
     let inside = c.self.inside in
-    let bytes = framed inside.front.items inside.at inside.new.items inside.back.items in
-    let same : framed c.deref.result.now inside.at c.deref-2.result.now c.deref-3.result.now ≡ bytes =
-    λ i. framed (c.deref.ensures.value i) inside.at (c.deref-2.ensures.value i) (c.deref-3.ensures.value i) in
+    let bytes = framed inside.front.items inside.at inside.new inside.back.items in
+    let same : framed c.deref.result.now inside.at c.as_slice.result.now c.deref-2.result.now ≡ bytes =
+    λ i. framed (c.deref.ensures.value i) inside.at (c.as_slice.ensures i) (c.deref-2.ensures.value i) in
     let place : ℕ = 512 * c.args.block + j in
     let size = length-words bytes (512 * inside.count) in
     let all = ap (λ (words : List ℕ). length words) c.self.view_is in

@@ -12,12 +12,12 @@ pub returns : goal.returns
 unfolding AreSmall
 returns c =
     let front = c.args.front.items in
-    let new = c.args.new.items in
+    let new = c.args.new in
     let back = c.args.back.items in
     let bytes = framed front c.args.at new back in
     let count = 512 * c.args.count in
     let small = framed_small front c.args.at new back
     (subst AreSmall c.deref.ensures.value c.bytes_are_small.ensures)
-    (subst AreSmall c.deref-2.ensures.value c.bytes_are_small-2.ensures)
-    (subst AreSmall c.deref-3.ensures.value c.bytes_are_small-3.ensures) in
+    (subst AreSmall c.as_slice.ensures c.bytes_are_small-2.ensures)
+    (subst AreSmall c.deref-2.ensures.value c.bytes_are_small-3.ensures) in
     spell_framed front c.args.at new back (words_in bytes count) c.args.count (length-words bytes count) (λ k low. words-spell bytes count k small (omega (arith, low)))

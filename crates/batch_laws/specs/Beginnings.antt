@@ -1,17 +1,17 @@
 -- The standing begins, as one statement.
 use Rattle.std.specs.Prelude.{◌≡◌, ◌≢◌, ℕ, true, false, List, [], length}
-use Rattle.live_model.specs.pm_model.Cells.{cell, is_lent}
-use Rattle.live_model.specs.layout_model.declared.lines.Kind.TheVariants.{File}
-use Rattle.live_model.specs.image_model.Volume.{inode}
-use Rattle.live_model.specs.file_table.Files.{Files, runs_in, size_in}
-use Rattle.live_model.specs.k_split.Order.{IsInOrder}
-use Rattle.live_model.specs.k_split_model.View.{View}
-use Rattle.live_model.specs.commute_laws.posix_types.declared.call.Mode.{Mode}
-use Rattle.live_model.specs.posix_tables.Open.{nothing_open}
-use Rattle.live_model.specs.posix_spec.State.{State}
-use Rattle.live_model.specs.world_image_laws.Images.{IsRunning}
-use Rattle.live_model.specs.Flying.{IsOut}
-use Rattle.live_model.specs.Standing.{IsQuietBeside}
+use Rattle.eof_laws.specs.live_model.pm_model.Cells.{cell, is_lent}
+use Rattle.eof_laws.specs.live_model.layout_model.declared.lines.Kind.TheVariants.{File}
+use Rattle.eof_laws.specs.live_model.image_model.Volume.{inode}
+use Rattle.eof_laws.specs.live_model.file_table.Files.{Files, runs_in, size_in}
+use Rattle.eof_laws.specs.live_model.k_split.Order.{IsInOrder}
+use Rattle.eof_laws.specs.live_model.k_split_model.View.{View}
+use Rattle.eof_laws.specs.live_model.commute_laws.posix_types.declared.call.Mode.{Mode}
+use Rattle.eof_laws.specs.live_model.posix_tables.Open.{nothing_open}
+use Rattle.eof_laws.specs.live_model.posix_spec.State.{State}
+use Rattle.eof_laws.specs.live_model.world_image_laws.Images.{IsRunning}
+use Rattle.eof_laws.specs.live_model.Flying.{IsOut}
+use Rattle.eof_laws.specs.live_model.Standing.{IsQuietBeside}
 use Rattle.posix_mode_laws.specs.Device.{IsAllPublished}
 use Rattle.batch_laws.specs.Ready.{GoesReady}
 

@@ -6,26 +6,26 @@ use Rattle.std.proofs.Math.ListN.{get_or-map}
 use Rattle.std.proofs.lemmas.Bool.{cases_lt}
 use Rattle.std.proofs.lemmas.Bool.Decides.{nat_tests}
 use Rattle.std.proofs.lemmas.List.{ext_get_or, get_or_past, length-map}
-use Rattle.live_model.specs.pm_model.ImageLaws.{IsImage-words_of}
-use Rattle.live_model.specs.pm_model.Images.{words_of}
-use Rattle.live_model.specs.pm_model.Words.{Words}
-use Rattle.live_model.specs.extent_model.declared.extent_words.Extent.{Extent}
-use Rattle.live_model.specs.layout_model.Journal.{journaled}
-use Rattle.live_model.specs.layout_model.Lines.{is_inode_of_kind}
-use Rattle.live_model.specs.layout_model.declared.lines.Draft.{Draft}
-use Rattle.live_model.specs.layout_model.declared.lines.Inode.{Inode}
-use Rattle.live_model.specs.layout_model.declared.lines.Kind.{Kind}
-use Rattle.live_model.specs.layout_model.declared.lines.Kind.TheVariants.{Directory, File, Free, Staging}
-use Rattle.live_model.specs.image_model.Reading.{Reads}
-use Rattle.live_model.specs.image_model.Volume.{extents, free_inode, inode, Volume}
-use Rattle.live_model.specs.file_table.Files.{Files, runs_in}
-use Rattle.live_model.specs.list_laws.Members.{In}
-use Rattle.live_model.specs.posix_laws.PublishLaws.{publishing_begins}
-use Rattle.live_model.specs.crash_spec.Posix.{LastBeforeCut}
-use Rattle.live_model.specs.world_step_laws.Ages.{AreAged}
-use Rattle.live_model.specs.world_step_laws.Counts.{HasShape}
-use Rattle.live_model.specs.world_step_laws.Worlds.{IsWorld}
-use Rattle.live_model.specs.world_model.Rules.{HasFreeBlocks}
+use Rattle.eof_laws.specs.live_model.pm_model.ImageLaws.{IsImage-words_of}
+use Rattle.eof_laws.specs.live_model.pm_model.Images.{words_of}
+use Rattle.eof_laws.specs.live_model.pm_model.Words.{Words}
+use Rattle.eof_laws.specs.live_model.extent_model.declared.extent_words.Extent.{Extent}
+use Rattle.eof_laws.specs.live_model.layout_model.Journal.{journaled}
+use Rattle.eof_laws.specs.live_model.layout_model.Lines.{is_inode_of_kind}
+use Rattle.eof_laws.specs.live_model.layout_model.declared.lines.Draft.{Draft}
+use Rattle.eof_laws.specs.live_model.layout_model.declared.lines.Inode.{Inode}
+use Rattle.eof_laws.specs.live_model.layout_model.declared.lines.Kind.{Kind}
+use Rattle.eof_laws.specs.live_model.layout_model.declared.lines.Kind.TheVariants.{Directory, File, Free, Staging}
+use Rattle.eof_laws.specs.live_model.image_model.Reading.{Reads}
+use Rattle.eof_laws.specs.live_model.image_model.Volume.{extents, free_inode, inode, Volume}
+use Rattle.eof_laws.specs.live_model.file_table.Files.{Files, runs_in}
+use Rattle.eof_laws.specs.live_model.list_laws.Members.{In}
+use Rattle.eof_laws.specs.live_model.posix_laws.PublishLaws.{publishing_begins}
+use Rattle.eof_laws.specs.live_model.crash_spec.Posix.{LastBeforeCut}
+use Rattle.eof_laws.specs.live_model.world_step_laws.Ages.{AreAged}
+use Rattle.eof_laws.specs.live_model.world_step_laws.Counts.{HasShape}
+use Rattle.eof_laws.specs.live_model.world_step_laws.Worlds.{IsWorld}
+use Rattle.eof_laws.specs.live_model.world_model.Rules.{HasFreeBlocks}
 use Rattle.posix_mode_laws.specs.Beginning.{begins_in_posix_mode}
 use Rattle.posix_mode_laws.specs.Device.{at_rest}
 use Rattle.posix_mode_laws.specs.Sides.{PosixWorld, Sides}

@@ -1,24 +1,24 @@
 -- What the calls see and the batch as it would be committed, as volumes that are seen; and changes that leave maps alone.
 use Rattle.std.specs.Prelude.{◌≡◌, ◌≢◌, ℕ, List, [], length, Option, None, Some, slice_index_or, refl}
 use Rattle.std.proofs.Common.{arith, ap, ◌∙◌, sym, inl}
-use Rattle.live_model.specs.pm_model.ImageLaws.{IsImage-words_of}
-use Rattle.live_model.specs.pm_model.Images.{words_of}
-use Rattle.live_model.specs.extent_model.declared.extent_words.Extent.{Extent}
-use Rattle.live_model.specs.layout_model.Journal.{journaled}
-use Rattle.live_model.specs.layout_model.Places.{data_blocks, Geometry}
-use Rattle.live_model.specs.layout_model.declared.lines.Draft.{Draft}
-use Rattle.live_model.specs.layout_model.declared.lines.Inode.{Inode}
-use Rattle.live_model.specs.layout_model.declared.lines.Kind.TheVariants.{File}
-use Rattle.live_model.specs.image_model.Volume.{chain, extents, inode, Volume}
-use Rattle.live_model.specs.file_table.Files.{Files}
-use Rattle.live_model.specs.k_split_model.View.{View}
-use Rattle.live_model.specs.commute_laws.posix_types.declared.item.Item.{Item}
-use Rattle.live_model.specs.posix_spec.Run.{run}
-use Rattle.live_model.specs.posix_spec.State.{State}
-use Rattle.live_model.specs.posix_laws.Cuts.{cut_of}
-use Rattle.live_model.specs.posix_laws.Lasting.{run_lasts}
-use Rattle.live_model.specs.world_model.Jobs.{Job}
-use Rattle.live_model.specs.world_model.Stands.{number}
+use Rattle.eof_laws.specs.live_model.pm_model.ImageLaws.{IsImage-words_of}
+use Rattle.eof_laws.specs.live_model.pm_model.Images.{words_of}
+use Rattle.eof_laws.specs.live_model.extent_model.declared.extent_words.Extent.{Extent}
+use Rattle.eof_laws.specs.live_model.layout_model.Journal.{journaled}
+use Rattle.eof_laws.specs.live_model.layout_model.Places.{data_blocks, Geometry}
+use Rattle.eof_laws.specs.live_model.layout_model.declared.lines.Draft.{Draft}
+use Rattle.eof_laws.specs.live_model.layout_model.declared.lines.Inode.{Inode}
+use Rattle.eof_laws.specs.live_model.layout_model.declared.lines.Kind.TheVariants.{File}
+use Rattle.eof_laws.specs.live_model.image_model.Volume.{chain, extents, inode, Volume}
+use Rattle.eof_laws.specs.live_model.file_table.Files.{Files}
+use Rattle.eof_laws.specs.live_model.k_split_model.View.{View}
+use Rattle.eof_laws.specs.live_model.commute_laws.posix_types.declared.item.Item.{Item}
+use Rattle.eof_laws.specs.live_model.posix_spec.Run.{run}
+use Rattle.eof_laws.specs.live_model.posix_spec.State.{State}
+use Rattle.eof_laws.specs.live_model.posix_laws.Cuts.{cut_of}
+use Rattle.eof_laws.specs.live_model.posix_laws.Lasting.{run_lasts}
+use Rattle.eof_laws.specs.live_model.world_model.Jobs.{Job}
+use Rattle.eof_laws.specs.live_model.world_model.Stands.{number}
 use Rattle.posix_mode_laws.specs.Sides.{sized}
 use Rattle.batch_laws.specs.Standing.{as_claims, PosixGoing, staged_of}
 use Rattle.batch_laws.specs.WorldsLaws.{cut_is_world, live_is_world}

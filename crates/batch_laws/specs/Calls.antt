@@ -1,24 +1,24 @@
 -- The calls of names of POSIX mode that gather with no commit, each law as one statement: the device goes on behind the call.
 use Rattle.std.specs.Prelude.{◌≡◌, ◌<◌, ◌+◌, ◌^◌, ℕ, true, false, List, [], ◌∷◌, ◌++◌, length, Option, Some, None}
-use Rattle.live_model.specs.layout_model.Places.{Geometry}
-use Rattle.live_model.specs.image_model.Volume.{Volume}
-use Rattle.live_model.specs.file_table.Files.{ChangesFile, Files}
-use Rattle.live_model.specs.k_split_model.ChangesChanges.{dropped}
-use Rattle.live_model.specs.k_split_model.Spaces.{volume_space}
-use Rattle.live_model.specs.k_split_model.View.{View}
-use Rattle.live_model.specs.commute_laws.posix_types.declared.call.Call.{Call}
-use Rattle.live_model.specs.commute_laws.posix_types.declared.handle.Flags.{Flags}
-use Rattle.live_model.specs.commute_laws.posix_types.declared.handle.Handle.{Handle}
-use Rattle.live_model.specs.commute_laws.posix_types.declared.item.Item.{Item}
-use Rattle.live_model.specs.posix_tables.NameRows.{mkdir_rows, open_rows, rename_rows, rmdir_rows, unlink_rows}
-use Rattle.live_model.specs.posix_tables.Open.{closed, is_full, is_open}
-use Rattle.live_model.specs.posix_tables.Outcomes.{first}
-use Rattle.live_model.specs.posix_spec.FileRows.{close_rows, file_number}
-use Rattle.live_model.specs.posix_spec.Run.{run}
-use Rattle.live_model.specs.posix_spec.State.{alone, State}
-use Rattle.live_model.specs.posix_spec.Step.{is_busy}
-use Rattle.live_model.specs.world_model.Stands.{number}
-use Rattle.live_model.specs.world_step_laws.Makers.{renumbered}
+use Rattle.eof_laws.specs.live_model.layout_model.Places.{Geometry}
+use Rattle.eof_laws.specs.live_model.image_model.Volume.{Volume}
+use Rattle.eof_laws.specs.live_model.file_table.Files.{ChangesFile, Files}
+use Rattle.eof_laws.specs.live_model.k_split_model.ChangesChanges.{dropped}
+use Rattle.eof_laws.specs.live_model.k_split_model.Spaces.{volume_space}
+use Rattle.eof_laws.specs.live_model.k_split_model.View.{View}
+use Rattle.eof_laws.specs.live_model.commute_laws.posix_types.declared.call.Call.{Call}
+use Rattle.eof_laws.specs.live_model.commute_laws.posix_types.declared.handle.Flags.{Flags}
+use Rattle.eof_laws.specs.live_model.commute_laws.posix_types.declared.handle.Handle.{Handle}
+use Rattle.eof_laws.specs.live_model.commute_laws.posix_types.declared.item.Item.{Item}
+use Rattle.eof_laws.specs.live_model.posix_tables.NameRows.{mkdir_rows, open_rows, rename_rows, rmdir_rows, unlink_rows}
+use Rattle.eof_laws.specs.live_model.posix_tables.Open.{closed, is_full, is_open}
+use Rattle.eof_laws.specs.live_model.posix_tables.Outcomes.{first}
+use Rattle.eof_laws.specs.live_model.posix_spec.FileRows.{close_rows, file_number}
+use Rattle.eof_laws.specs.live_model.posix_spec.Run.{run}
+use Rattle.eof_laws.specs.live_model.posix_spec.State.{alone, State}
+use Rattle.eof_laws.specs.live_model.posix_spec.Step.{is_busy}
+use Rattle.eof_laws.specs.live_model.world_model.Stands.{number}
+use Rattle.eof_laws.specs.live_model.world_step_laws.Makers.{renumbered}
 use Rattle.k_split_laws.specs.k_plans.Making.{IsMade}
 use Rattle.k_split_laws.specs.k_plans.Removing.{IsRemoved, IsUnlinked}
 use Rattle.k_split_laws.specs.k_plans.Renaming.{IsRenamed}

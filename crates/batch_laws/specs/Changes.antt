@@ -1,18 +1,18 @@
 -- A change of names that gathers, as one law over what it makes of the batch.
 use Rattle.std.specs.Prelude.{◌≡◌, ◌≢◌, ◌⊎◌, ℕ, true, false, List, [], ◌∷◌, ◌++◌, length, Option, Some, None}
-use Rattle.live_model.specs.layout_model.Places.{Geometry}
-use Rattle.live_model.specs.image_model.Volume.{chain, extents, Volume}
-use Rattle.live_model.specs.file_table.Files.{Files, runs_in, size_in}
-use Rattle.live_model.specs.k_split.Order.{IsInOrder}
-use Rattle.live_model.specs.k_split_model.View.{View}
-use Rattle.live_model.specs.commute_laws.posix_types.declared.item.Item.{Item}
-use Rattle.live_model.specs.posix_spec.Run.{after_call, begun, run}
-use Rattle.live_model.specs.posix_spec.State.{State}
-use Rattle.live_model.specs.posix_laws.Cuts.{cut_of}
-use Rattle.live_model.specs.posix_laws.Shortens.{shortens}
-use Rattle.live_model.specs.crash_spec.Posix.{syncs}
-use Rattle.live_model.specs.crash_spec.Values.{value_put}
-use Rattle.live_model.specs.world_model.Stands.{number}
+use Rattle.eof_laws.specs.live_model.layout_model.Places.{Geometry}
+use Rattle.eof_laws.specs.live_model.image_model.Volume.{chain, extents, Volume}
+use Rattle.eof_laws.specs.live_model.file_table.Files.{Files, runs_in, size_in}
+use Rattle.eof_laws.specs.live_model.k_split.Order.{IsInOrder}
+use Rattle.eof_laws.specs.live_model.k_split_model.View.{View}
+use Rattle.eof_laws.specs.live_model.commute_laws.posix_types.declared.item.Item.{Item}
+use Rattle.eof_laws.specs.live_model.posix_spec.Run.{after_call, begun, run}
+use Rattle.eof_laws.specs.live_model.posix_spec.State.{State}
+use Rattle.eof_laws.specs.live_model.posix_laws.Cuts.{cut_of}
+use Rattle.eof_laws.specs.live_model.posix_laws.Shortens.{shortens}
+use Rattle.eof_laws.specs.live_model.crash_spec.Posix.{syncs}
+use Rattle.eof_laws.specs.live_model.crash_spec.Values.{value_put}
+use Rattle.eof_laws.specs.live_model.world_model.Stands.{number}
 use Rattle.posix_mode_laws.specs.Sides.{sized}
 use Rattle.batch_laws.specs.Standing.{as_claims, staged_of}
 use Rattle.k_split_laws.specs.Going.{IsStep}

@@ -4,43 +4,43 @@ use Rattle.std.specs.List.{flat_map, range_with_len}
 use Rattle.std.proofs.Common.{arith, ap, append_assoc, ◌∙◌, sym, subst, inl, inr}
 use Rattle.std.proofs.lemmas.Bool.{cases_eq, eq-eqb, false_from_ne_true, ne_eqb}
 use Rattle.std.proofs.lemmas.List.Elements.{filter-append}
-use Rattle.live_model.specs.pm_model.ImageLaws.{IsImage-words_of}
-use Rattle.live_model.specs.pm_model.Images.{IsImage, words_of}
-use Rattle.live_model.specs.pm_model.Words.{Words}
-use Rattle.live_model.specs.extent_model.Extents.{disk_at, is_within}
-use Rattle.live_model.specs.extent_model.declared.extent_words.Extent.{Extent}
-use Rattle.live_model.specs.layout_model.Journal.{journaled}
-use Rattle.live_model.specs.layout_model.Places.{Geometry, log_line, reserve}
-use Rattle.live_model.specs.layout_model.declared.lines.Draft.{Draft}
-use Rattle.live_model.specs.layout_model.declared.lines.Inode.{Inode}
-use Rattle.live_model.specs.layout_model.declared.lines.Kind.TheVariants.{File, Staging}
-use Rattle.live_model.specs.image_model.Content.{disk_of, entry_of_block}
-use Rattle.live_model.specs.image_model.Live.{is_file, is_live, latest}
-use Rattle.live_model.specs.image_model.Placed.{block_at}
-use Rattle.live_model.specs.image_model.Room.{unused_blocks}
-use Rattle.live_model.specs.image_model.Volume.{chain, extents, inode, Volume}
-use Rattle.live_model.specs.file_overlay.declared.runs.Run.{Run}
-use Rattle.live_model.specs.file_table.Files.{Files, runs_in, size_in}
-use Rattle.live_model.specs.k_split.Order.{IsInOrder}
-use Rattle.live_model.specs.k_split_model.View.{View}
-use Rattle.live_model.specs.list_laws.Filters.{filter-agree, filter-both, filter-In, In-filter, In-map, map-In}
-use Rattle.live_model.specs.list_laws.Members.{In}
-use Rattle.live_model.specs.commute_laws.posix_types.declared.item.Item.{Item}
-use Rattle.live_model.specs.posix_spec.Run.{after_call, after_calls, begun, run, run-append, Unfinished}
-use Rattle.live_model.specs.posix_spec.State.{State}
-use Rattle.live_model.specs.posix_laws.Cuts.{cut_of}
-use Rattle.live_model.specs.posix_laws.Lasting.{step_lasts}
-use Rattle.live_model.specs.posix_laws.PublishLaws.{publishing_kept}
-use Rattle.live_model.specs.posix_laws.Publishes.{PathsLeadToNodes}
-use Rattle.live_model.specs.posix_laws.Shortens.{shortens}
-use Rattle.live_model.specs.crash_spec.Values.{is_shortened, value_put}
-use Rattle.live_model.specs.world_model.JobLaws.{live_file}
-use Rattle.live_model.specs.world_model.Jobs.{live_claims}
-use Rattle.live_model.specs.world_model.Stands.{entries_of, is_used, IsUsed, number, Stands}
-use Rattle.live_model.specs.world_step_laws.Ages.{AreAged}
-use Rattle.live_model.specs.world_step_laws.Counts.{HasShape}
-use Rattle.live_model.specs.world_step_laws.Worlds.{IsWorld}
-use Rattle.live_model.specs.Flying.{IsOut}
+use Rattle.eof_laws.specs.live_model.pm_model.ImageLaws.{IsImage-words_of}
+use Rattle.eof_laws.specs.live_model.pm_model.Images.{IsImage, words_of}
+use Rattle.eof_laws.specs.live_model.pm_model.Words.{Words}
+use Rattle.eof_laws.specs.live_model.extent_model.Extents.{disk_at, is_within}
+use Rattle.eof_laws.specs.live_model.extent_model.declared.extent_words.Extent.{Extent}
+use Rattle.eof_laws.specs.live_model.layout_model.Journal.{journaled}
+use Rattle.eof_laws.specs.live_model.layout_model.Places.{Geometry, log_line, reserve}
+use Rattle.eof_laws.specs.live_model.layout_model.declared.lines.Draft.{Draft}
+use Rattle.eof_laws.specs.live_model.layout_model.declared.lines.Inode.{Inode}
+use Rattle.eof_laws.specs.live_model.layout_model.declared.lines.Kind.TheVariants.{File, Staging}
+use Rattle.eof_laws.specs.live_model.image_model.Content.{disk_of, entry_of_block}
+use Rattle.eof_laws.specs.live_model.image_model.Live.{is_file, is_live, latest}
+use Rattle.eof_laws.specs.live_model.image_model.Placed.{block_at}
+use Rattle.eof_laws.specs.live_model.image_model.Room.{unused_blocks}
+use Rattle.eof_laws.specs.live_model.image_model.Volume.{chain, extents, inode, Volume}
+use Rattle.eof_laws.specs.live_model.file_overlay.declared.runs.Run.{Run}
+use Rattle.eof_laws.specs.live_model.file_table.Files.{Files, runs_in, size_in}
+use Rattle.eof_laws.specs.live_model.k_split.Order.{IsInOrder}
+use Rattle.eof_laws.specs.live_model.k_split_model.View.{View}
+use Rattle.eof_laws.specs.live_model.list_laws.Filters.{filter-agree, filter-both, filter-In, In-filter, In-map, map-In}
+use Rattle.eof_laws.specs.live_model.list_laws.Members.{In}
+use Rattle.eof_laws.specs.live_model.commute_laws.posix_types.declared.item.Item.{Item}
+use Rattle.eof_laws.specs.live_model.posix_spec.Run.{after_call, after_calls, begun, run, run-append, Unfinished}
+use Rattle.eof_laws.specs.live_model.posix_spec.State.{State}
+use Rattle.eof_laws.specs.live_model.posix_laws.Cuts.{cut_of}
+use Rattle.eof_laws.specs.live_model.posix_laws.Lasting.{step_lasts}
+use Rattle.eof_laws.specs.live_model.posix_laws.PublishLaws.{publishing_kept}
+use Rattle.eof_laws.specs.live_model.posix_laws.Publishes.{PathsLeadToNodes}
+use Rattle.eof_laws.specs.live_model.posix_laws.Shortens.{shortens}
+use Rattle.eof_laws.specs.live_model.crash_spec.Values.{is_shortened, value_put}
+use Rattle.eof_laws.specs.live_model.world_model.JobLaws.{live_file}
+use Rattle.eof_laws.specs.live_model.world_model.Jobs.{live_claims}
+use Rattle.eof_laws.specs.live_model.world_model.Stands.{entries_of, is_used, IsUsed, number, Stands}
+use Rattle.eof_laws.specs.live_model.world_step_laws.Ages.{AreAged}
+use Rattle.eof_laws.specs.live_model.world_step_laws.Counts.{HasShape}
+use Rattle.eof_laws.specs.live_model.world_step_laws.Worlds.{IsWorld}
+use Rattle.eof_laws.specs.live_model.Flying.{IsOut}
 use Rattle.posix_mode_laws.specs.Batch.{IsBatch}
 use Rattle.posix_mode_laws.specs.BatchSteps.{after_is_run, begun_more, run_both, shortened_more}
 use Rattle.posix_mode_laws.specs.ClaimsLaws.{generation_sized, live_sized}

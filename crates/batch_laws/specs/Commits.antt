@@ -1,16 +1,16 @@
 -- A commit between two calls, done or cut off, each law as one statement.
 use Rattle.std.specs.Prelude.{◌≡◌, ℕ, true, false, List, []}
-use Rattle.live_model.specs.pm_model.Frames.{KeepsSingle}
-use Rattle.live_model.specs.layout_model.Places.{Geometry}
-use Rattle.live_model.specs.file_table.Files.{Files}
-use Rattle.live_model.specs.k_split.Answers.{Changes}
-use Rattle.live_model.specs.k_split.Order.{IsInOrder}
-use Rattle.live_model.specs.k_split_model.View.{View}
-use Rattle.live_model.specs.commute_laws.posix_types.declared.item.Item.{Item}
-use Rattle.live_model.specs.posix_spec.Run.{Unfinished}
-use Rattle.live_model.specs.posix_spec.State.{State}
-use Rattle.live_model.specs.world_image_laws.Images.{HasLogHome}
-use Rattle.live_model.specs.world_image_laws.Promised.{KeepsPromise}
+use Rattle.eof_laws.specs.live_model.pm_model.Frames.{KeepsSingle}
+use Rattle.eof_laws.specs.live_model.layout_model.Places.{Geometry}
+use Rattle.eof_laws.specs.live_model.file_table.Files.{Files}
+use Rattle.eof_laws.specs.live_model.k_split.Answers.{Changes}
+use Rattle.eof_laws.specs.live_model.k_split.Order.{IsInOrder}
+use Rattle.eof_laws.specs.live_model.k_split_model.View.{View}
+use Rattle.eof_laws.specs.live_model.commute_laws.posix_types.declared.item.Item.{Item}
+use Rattle.eof_laws.specs.live_model.posix_spec.Run.{Unfinished}
+use Rattle.eof_laws.specs.live_model.posix_spec.State.{State}
+use Rattle.eof_laws.specs.live_model.world_image_laws.Images.{HasLogHome}
+use Rattle.eof_laws.specs.live_model.world_image_laws.Promised.{KeepsPromise}
 use Rattle.posix_mode_laws.specs.Device.{KeepsStrongly}
 use Rattle.batch_laws.specs.Ready.{GoesReady}
 

@@ -1,36 +1,36 @@
 -- A commit between two calls, done or cut off.
 use Rattle.std.specs.Prelude.{◌≡◌, ◌⊎◌, ◌≤◌, ◌+◌, ℕ, true, List, [], ◌++◌, map, refl}
 use Rattle.std.proofs.Common.{arith, ap, append-nil, ◌∙◌, sym, subst, inl, inr}
-use Rattle.live_model.specs.pm_model.Images.{IsImage}
-use Rattle.live_model.specs.pm_model.Words.{Words}
-use Rattle.live_model.specs.layout_model.Journal.{IsSound, journaled}
-use Rattle.live_model.specs.layout_model.Places.{data_blocks, Geometry, is_data_block, IsGeometry, reserve}
-use Rattle.live_model.specs.image_model.Content.{content}
-use Rattle.live_model.specs.image_model.Reading.{Reads}
-use Rattle.live_model.specs.image_model.Room.{unused_blocks}
-use Rattle.live_model.specs.image_model.Volume.{Volume}
-use Rattle.live_model.specs.file_table.Files.{Files}
-use Rattle.live_model.specs.k_split.Order.{IsInOrder}
-use Rattle.live_model.specs.k_split_model.Stands.{IsOldOrNew}
-use Rattle.live_model.specs.k_split_model.View.{View}
-use Rattle.live_model.specs.commute_laws.posix_types.declared.call.Mode.{Mode}
-use Rattle.live_model.specs.commute_laws.posix_types.declared.item.Item.{Item}
-use Rattle.live_model.specs.commute_laws.posix_types.declared.tree.TreeEntry.{TreeEntry}
-use Rattle.live_model.specs.posix_spec.Run.{begun, run, Unfinished}
-use Rattle.live_model.specs.posix_spec.State.{Fits, State}
-use Rattle.live_model.specs.posix_laws.Lasting.{run_lasts}
-use Rattle.live_model.specs.crash_spec.Permitted.{Permitted}
-use Rattle.live_model.specs.crash_spec.Posix.{LastBeforeCut, StrongPosix}
-use Rattle.live_model.specs.crash_spec.Laws.{StrongIsPosix}
-use Rattle.live_model.specs.volume_laws.FootprintLaws.{content-own}
-use Rattle.live_model.specs.world_model.Rules.{HasFreeBlocks}
-use Rattle.live_model.specs.world_model.Shown.{IsTreeOfContent, SameButLent}
-use Rattle.live_model.specs.world_model.Stands.{Stands}
-use Rattle.live_model.specs.world_step_laws.Counts.{HasShape}
-use Rattle.live_model.specs.world_image_laws.Changed.{headed_changed, IsWorld-words, same_data, SameLog-changed, ShowsLog-same, sound_headed}
-use Rattle.live_model.specs.world_image_laws.Images.{IsHeaded, ShowsLog, ShowsWorld}
-use Rattle.live_model.specs.world_image_laws.Kept.{kept_by, one_tree}
-use Rattle.live_model.specs.world_image_laws.Promised.{IsKept}
+use Rattle.eof_laws.specs.live_model.pm_model.Images.{IsImage}
+use Rattle.eof_laws.specs.live_model.pm_model.Words.{Words}
+use Rattle.eof_laws.specs.live_model.layout_model.Journal.{IsSound, journaled}
+use Rattle.eof_laws.specs.live_model.layout_model.Places.{data_blocks, Geometry, is_data_block, IsGeometry, reserve}
+use Rattle.eof_laws.specs.live_model.image_model.Content.{content}
+use Rattle.eof_laws.specs.live_model.image_model.Reading.{Reads}
+use Rattle.eof_laws.specs.live_model.image_model.Room.{unused_blocks}
+use Rattle.eof_laws.specs.live_model.image_model.Volume.{Volume}
+use Rattle.eof_laws.specs.live_model.file_table.Files.{Files}
+use Rattle.eof_laws.specs.live_model.k_split.Order.{IsInOrder}
+use Rattle.eof_laws.specs.live_model.k_split_model.Stands.{IsOldOrNew}
+use Rattle.eof_laws.specs.live_model.k_split_model.View.{View}
+use Rattle.eof_laws.specs.live_model.commute_laws.posix_types.declared.call.Mode.{Mode}
+use Rattle.eof_laws.specs.live_model.commute_laws.posix_types.declared.item.Item.{Item}
+use Rattle.eof_laws.specs.live_model.commute_laws.posix_types.declared.tree.TreeEntry.{TreeEntry}
+use Rattle.eof_laws.specs.live_model.posix_spec.Run.{begun, run, Unfinished}
+use Rattle.eof_laws.specs.live_model.posix_spec.State.{Fits, State}
+use Rattle.eof_laws.specs.live_model.posix_laws.Lasting.{run_lasts}
+use Rattle.eof_laws.specs.live_model.crash_spec.Permitted.{Permitted}
+use Rattle.eof_laws.specs.live_model.crash_spec.Posix.{LastBeforeCut, StrongPosix}
+use Rattle.eof_laws.specs.live_model.crash_spec.Laws.{StrongIsPosix}
+use Rattle.eof_laws.specs.live_model.volume_laws.FootprintLaws.{content-own}
+use Rattle.eof_laws.specs.live_model.world_model.Rules.{HasFreeBlocks}
+use Rattle.eof_laws.specs.live_model.world_model.Shown.{IsTreeOfContent, SameButLent}
+use Rattle.eof_laws.specs.live_model.world_model.Stands.{Stands}
+use Rattle.eof_laws.specs.live_model.world_step_laws.Counts.{HasShape}
+use Rattle.eof_laws.specs.live_model.world_image_laws.Changed.{headed_changed, IsWorld-words, same_data, SameLog-changed, ShowsLog-same, sound_headed}
+use Rattle.eof_laws.specs.live_model.world_image_laws.Images.{IsHeaded, ShowsLog, ShowsWorld}
+use Rattle.eof_laws.specs.live_model.world_image_laws.Kept.{kept_by, one_tree}
+use Rattle.eof_laws.specs.live_model.world_image_laws.Promised.{IsKept}
 use Rattle.posix_mode_laws.specs.CutStands.{cut_is_one, left_fits}
 use Rattle.posix_mode_laws.specs.Sides.{AreLengths, PosixWorld, Sides, sized}
 use Rattle.posix_mode_laws.specs.Steps.{batch_commits, permitted_left}
@@ -56,7 +56,7 @@ module _ (g : Geometry) (k : View) (files : Files) (count : ℕ) (numbers : List
   sound : IsSound k.committed.geometry before
   sound = subst (λ x. IsSound x before) (sym medium) (sound_headed g before (going.headed before is))
 
-  headed : IsHeaded g image
+  pub headed : IsHeaded g image
   headed =
       subst (λ x. IsHeaded x image) medium
       (headed_changed k.committed.geometry k.committed k.volume before image (subst (λ x. IsHeaded x before) (sym medium) (going.headed before is)) changed ready.base
@@ -170,7 +170,7 @@ module _ (w : Sides) (f : Words) (start : State) (front later : List Item) (worl
       }
 
   -- by other words, of which the data are the same
-  shows_medium : Fits (run start front) → HasShape w.committed (run start front) → start.shape.data_blocks ≡ data_blocks w.committed.geometry → IsGeometry w.committed.geometry → HasFreeBlocks w.committed [] []
+  pub shows_medium : Fits (run start front) → HasShape w.committed (run start front) → start.shape.data_blocks ≡ data_blocks w.committed.geometry → IsGeometry w.committed.geometry → HasFreeBlocks w.committed [] []
       → IsHeaded w.committed.geometry image → Reads w.committed.geometry (journaled image) w.committed → SameButLent w.committed [] f (journaled image) → ShowsLog w.committed [] (journaled image)
       → ShowsWorld w.committed [] [] w.committed_numbers world.medium.state 0 image
   shows_medium fits shape blocks geometry free headed reads same log = record {
@@ -191,14 +191,14 @@ module _ (w : Sides) (f : Words) (start : State) (front later : List Item) (worl
 
   module _ (unfinished : List Unfinished) (shown : ShowsWorld w.committed [] [] w.committed_numbers world.medium.state 0 image) where
     -- its trees are permitted,
-    strongly : (left : List TreeEntry) → IsTreeOfContent (content w.committed.geometry image) left → StrongPosix start (front ++ later) unfinished left
+    pub strongly : (left : List TreeEntry) → IsTreeOfContent (content w.committed.geometry image) left → StrongPosix start (front ++ later) unfinished left
     strongly left tree_is =
         permitted_left LastBeforeCut w f start front later unfinished left world
         (one_tree w.committed [] w.committed_numbers world.medium.state 0 image left shown
         (subst (λ c. IsTreeOfContent c left) (content-own w.committed.geometry w.committed (journaled image) shown.reads) tree_is))
 
     -- and it is kept.
-    kept : StrongIsPosix → start.mode ≡ Mode.Posix → IsKept w.committed.geometry start (front ++ later) unfinished image
+    pub kept : StrongIsPosix → start.mode ≡ Mode.Posix → IsKept w.committed.geometry start (front ++ later) unfinished image
     kept weaker mode =
         kept_by w.committed [] [] w.committed_numbers world.medium.state 0 image start (front ++ later) unfinished shown
         (λ left tree_is. subst (λ m. Permitted m start (front ++ later) unfinished left) (sym mode)
@@ -209,7 +209,7 @@ module _ (w : Sides) (f : Words) (start : State) (front later : List Item) (worl
 
 -- each image shows the old medium, or the new one
 module _ (g : Geometry) (k : View) (files : Files) (count : ℕ) (numbers : List ℕ) (start : State) (history : List Item) (ready : GoesReady g k files count numbers start history)
-    (before image : Words) (is : IsImage k.cells before) (changed : IsOldOrNew k.committed.geometry [] k.committed k.volume before image) (home : ShowsLog k.committed [] (journaled before)) where
+    (before image : Words) (is : IsImage k.cells before) (changed : IsOldOrNew k.committed.geometry [] k.committed k.volume before image) (seen : ShowsLog k.committed [] (journaled image)) where
   abbrev standing : PosixGoing g k files count numbers start history
   standing = ready.going
 
@@ -240,14 +240,14 @@ module _ (g : Geometry) (k : View) (files : Files) (count : ℕ) (numbers : List
         shows_medium old_sides (journaled before) start standing.front standing.later old_world image standing.fits_front standing.shape_front
         (standing.blocks ∙ ap data_blocks (sym medium_is)) (subst IsGeometry (sym medium_is) standing.is_geometry) standing.free (subst (λ x. IsHeaded x image) (sym medium_is) head) old
         (same_bytes g k files count numbers start history ready before image is changed k.committed medium_is)
-        (log g k files count numbers start history ready before image is changed k.committed refl refl home))
+        seen)
     by (inr new) = inr (
         shows_medium (at_rest k.volume files numbers) (journaled image) start history [] new_world image standing.fits standing.shape
         (standing.blocks ∙ ap data_blocks (sym standing.geometry)) (subst IsGeometry (sym standing.geometry) standing.is_geometry) (spare_blocks g k.volume standing.geometry standing.spare)
         (subst (λ x. IsHeaded x image) (sym standing.geometry) head) (subst (λ x. Reads x (journaled image) k.volume) (sym ready.geometry) new) (λ b i in_data below lent. refl)
-        (log g k files count numbers start history ready before image is changed k.volume ready.geometry ready.base home))
+        (ShowsLog-same k.committed k.volume [] (journaled image) (journaled image) ready.geometry ready.base (record { words = λ slot i below at. refl }) seen))
 
-  cut_kept : (unfinished : List Unfinished) → StrongIsPosix → IsKept g start history unfinished image
+  pub cut_kept : (unfinished : List Unfinished) → StrongIsPosix → IsKept g start history unfinished image
   cut_kept unfinished weaker = elim shows [
     | inl old ↦
         subst (λ h. IsKept g start h unfinished image) (sym standing.history_is)
@@ -259,7 +259,7 @@ module _ (g : Geometry) (k : View) (files : Files) (count : ℕ) (numbers : List
         (kept (at_rest k.volume files numbers) (journaled image) start history [] new_world image unfinished new weaker standing.mode))
   ]
 
-  cut_strongly : (unfinished : List Unfinished) (left : List TreeEntry) → IsTreeOfContent (content g image) left → StrongPosix start history unfinished left
+  pub cut_strongly : (unfinished : List Unfinished) (left : List TreeEntry) → IsTreeOfContent (content g image) left → StrongPosix start history unfinished left
   cut_strongly unfinished left tree_is = elim shows [
     | inl old ↦
         subst (λ h. StrongPosix start h unfinished left) (sym standing.history_is)
@@ -274,9 +274,11 @@ module _ (g : Geometry) (k : View) (files : Files) (count : ℕ) (numbers : List
 pub commit_keeps_promise : StrongIsPosix → CommitKeepsPromise
 commit_keeps_promise weaker g k l files count numbers start history unfinished ready home changes image is honest =
     let from = changes.each_image image is in
-    cut_kept g k files count numbers start history ready from.0 image from.1.is_image from.2 (home from.0 from.1.is_image) unfinished weaker
+    cut_kept g k files count numbers start history ready from.0 image from.1.is_image from.2
+    (log g k files count numbers start history ready from.0 image from.1.is_image from.2 k.committed refl refl (home from.0 from.1.is_image)) unfinished weaker
 
 pub commit_keeps_strongly : CommitKeepsStrongly
 commit_keeps_strongly g k l files count numbers start history unfinished ready home changes image is honest left tree_is =
     let from = changes.each_image image is in
-    cut_strongly g k files count numbers start history ready from.0 image from.1.is_image from.2 (home from.0 from.1.is_image) unfinished left tree_is
+    cut_strongly g k files count numbers start history ready from.0 image from.1.is_image from.2
+    (log g k files count numbers start history ready from.0 image from.1.is_image from.2 k.committed refl refl (home from.0 from.1.is_image)) unfinished left tree_is

@@ -3,32 +3,32 @@ use Rattle.std.specs.Prelude.{◌≡◌, ◌≢◌, ◌⊎◌, ◌<◌, ◌||◌
 use Rattle.std.proofs.Common.{ap, ◌∙◌, sym, subst, inl, inr}
 use Rattle.std.proofs.lemmas.Bool.{cases_eq}
 use Rattle.std.proofs.lemmas.List.{get_or-set_other, get_or-set_same, length-set}
-use Rattle.live_model.specs.layout_model.declared.lines.Draft.{Draft}
-use Rattle.live_model.specs.layout_model.declared.lines.Kind.TheVariants.{File, Staging}
-use Rattle.live_model.specs.extent_model.declared.extent_words.Extent.{Extent}
-use Rattle.live_model.specs.image_model.Volume.{chain, extents, inode, Volume}
-use Rattle.live_model.specs.file_table.Files.{ChangesFile, Files, runs_in, size_in}
-use Rattle.live_model.specs.k_split_model.ChangesChanges.{dropped, gone_node}
-use Rattle.live_model.specs.k_split_model.Spaces.{volume_space}
-use Rattle.live_model.specs.commute_laws.posix_types.declared.call.Call.{Call}
-use Rattle.live_model.specs.commute_laws.posix_types.declared.call.Who.{Who}
-use Rattle.live_model.specs.commute_laws.posix_types.declared.handle.Handle.{Handle}
-use Rattle.live_model.specs.posix_tables.NameRows.{unlink_rows}
-use Rattle.live_model.specs.posix_tables.Names.{is_named}
-use Rattle.live_model.specs.posix_tables.Open.{closed, is_open}
-use Rattle.live_model.specs.posix_tables.Outcomes.{first}
-use Rattle.live_model.specs.posix_spec.FileRows.{close_rows, file_number}
-use Rattle.live_model.specs.posix_spec.Run.{after_call, run}
-use Rattle.live_model.specs.posix_spec.State.{alone, State, swept, unnamed as unnamed_state}
-use Rattle.live_model.specs.posix_laws.CutLaws.{names_cut}
-use Rattle.live_model.specs.posix_laws.Cuts.{cut_of, goes_behind}
-use Rattle.live_model.specs.volume_laws.Changes.{chain-set_other, chain-set_same, extents-set_other, extents-set_same}
-use Rattle.live_model.specs.volume_laws.Uses.{HasAllMaps}
-use Rattle.live_model.specs.world_model.Stands.{is_used, IsSane, number}
-use Rattle.live_model.specs.world_step_laws.Nameless.{count-nameless, is_named-nameless}
-use Rattle.live_model.specs.world_step_laws.OtherCalls.{IsWorld-close_gone}
-use Rattle.live_model.specs.world_image_laws.ImagesRooms.{room_dropped}
-use Rattle.live_model.specs.world_image_laws.Settings.{keeps_setting}
+use Rattle.eof_laws.specs.live_model.layout_model.declared.lines.Draft.{Draft}
+use Rattle.eof_laws.specs.live_model.layout_model.declared.lines.Kind.TheVariants.{File, Staging}
+use Rattle.eof_laws.specs.live_model.extent_model.declared.extent_words.Extent.{Extent}
+use Rattle.eof_laws.specs.live_model.image_model.Volume.{chain, extents, inode, Volume}
+use Rattle.eof_laws.specs.live_model.file_table.Files.{ChangesFile, Files, runs_in, size_in}
+use Rattle.eof_laws.specs.live_model.k_split_model.ChangesChanges.{dropped, gone_node}
+use Rattle.eof_laws.specs.live_model.k_split_model.Spaces.{volume_space}
+use Rattle.eof_laws.specs.live_model.commute_laws.posix_types.declared.call.Call.{Call}
+use Rattle.eof_laws.specs.live_model.commute_laws.posix_types.declared.call.Who.{Who}
+use Rattle.eof_laws.specs.live_model.commute_laws.posix_types.declared.handle.Handle.{Handle}
+use Rattle.eof_laws.specs.live_model.posix_tables.NameRows.{unlink_rows}
+use Rattle.eof_laws.specs.live_model.posix_tables.Names.{is_named}
+use Rattle.eof_laws.specs.live_model.posix_tables.Open.{closed, is_open}
+use Rattle.eof_laws.specs.live_model.posix_tables.Outcomes.{first}
+use Rattle.eof_laws.specs.live_model.posix_spec.FileRows.{close_rows, file_number}
+use Rattle.eof_laws.specs.live_model.posix_spec.Run.{after_call, run}
+use Rattle.eof_laws.specs.live_model.posix_spec.State.{alone, State, swept, unnamed as unnamed_state}
+use Rattle.eof_laws.specs.live_model.posix_laws.CutLaws.{names_cut}
+use Rattle.eof_laws.specs.live_model.posix_laws.Cuts.{cut_of, goes_behind}
+use Rattle.eof_laws.specs.live_model.volume_laws.Changes.{chain-set_other, chain-set_same, extents-set_other, extents-set_same}
+use Rattle.eof_laws.specs.live_model.volume_laws.Uses.{HasAllMaps}
+use Rattle.eof_laws.specs.live_model.world_model.Stands.{is_used, IsSane, number}
+use Rattle.eof_laws.specs.live_model.world_step_laws.Nameless.{count-nameless, is_named-nameless}
+use Rattle.eof_laws.specs.live_model.world_step_laws.OtherCalls.{IsWorld-close_gone}
+use Rattle.eof_laws.specs.live_model.world_image_laws.ImagesRooms.{room_dropped}
+use Rattle.eof_laws.specs.live_model.world_image_laws.Settings.{keeps_setting}
 use Rattle.posix_mode_laws.specs.ChangesLaws.{sized_dropped}
 use Rattle.posix_mode_laws.specs.Sides.{sized}
 use Rattle.posix_mode_laws.specs.Sized.{kind-sized, length-with_sizes}

@@ -1,12 +1,12 @@
 -- The device goes on behind a change or a call that writes nothing that the medium shows.
 use Rattle.std.specs.Prelude.{List, [], ◌++◌, refl}
 use Rattle.std.proofs.Common.{ap, append_assoc, ◌∙◌, sym, subst}
-use Rattle.live_model.specs.layout_model.Journal.{journaled}
-use Rattle.live_model.specs.commute_laws.posix_types.declared.item.Item.{Item}
-use Rattle.live_model.specs.posix_spec.Run.{run}
-use Rattle.live_model.specs.posix_laws.Publishes.{IsPublishing}
-use Rattle.live_model.specs.world_model.Rules.{HasFreeBlocks}
-use Rattle.live_model.specs.world_step_laws.Counts.{HasShape}
+use Rattle.eof_laws.specs.live_model.layout_model.Journal.{journaled}
+use Rattle.eof_laws.specs.live_model.commute_laws.posix_types.declared.item.Item.{Item}
+use Rattle.eof_laws.specs.live_model.posix_spec.Run.{run}
+use Rattle.eof_laws.specs.live_model.posix_laws.Publishes.{IsPublishing}
+use Rattle.eof_laws.specs.live_model.world_model.Rules.{HasFreeBlocks}
+use Rattle.eof_laws.specs.live_model.world_step_laws.Counts.{HasShape}
 use Rattle.posix_mode_laws.specs.BatchSteps.{batch_steps}
 use Rattle.batch_laws.specs.Goings.{GoingGoesOn}
 use Rattle.batch_laws.specs.Standing.{sides_of}

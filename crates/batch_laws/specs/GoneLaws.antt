@@ -1,22 +1,22 @@
 -- The calls by which a name goes, while changes gather, and a file with its staged runs.
 use Rattle.std.specs.Prelude.{◌≡◌, ◌≢◌, ℕ, true, false, List, [], None, Some, slice_index, refl}
 use Rattle.std.proofs.Common.{ap, ◌∙◌, sym, subst}
-use Rattle.live_model.specs.layout_model.declared.lines.Draft.{Draft}
-use Rattle.live_model.specs.layout_model.declared.lines.Kind.TheVariants.{File, Staging}
-use Rattle.live_model.specs.image_model.Live.{is_directory}
-use Rattle.live_model.specs.image_model.Volume.{extents, inode, Volume}
-use Rattle.live_model.specs.k_split_model.Spaces.{volume_space}
-use Rattle.live_model.specs.commute_laws.posix_types.declared.call.Call.{Call}
-use Rattle.live_model.specs.commute_laws.posix_types.declared.call.Who.{Who}
-use Rattle.live_model.specs.posix_tables.NameRows.{rmdir_rows, unlink_rows}
-use Rattle.live_model.specs.posix_tables.Open.{is_open}
-use Rattle.live_model.specs.posix_tables.Outcomes.{first}
-use Rattle.live_model.specs.posix_spec.Run.{after_call, run}
-use Rattle.live_model.specs.posix_spec.State.{State, unnamed as unnamed_state}
-use Rattle.live_model.specs.posix_laws.CutLaws.{names_cut}
-use Rattle.live_model.specs.posix_laws.Cuts.{cut_of}
-use Rattle.live_model.specs.world_model.Stands.{number}
-use Rattle.live_model.specs.world_step_laws.RemoveCalls.{swept-open}
+use Rattle.eof_laws.specs.live_model.layout_model.declared.lines.Draft.{Draft}
+use Rattle.eof_laws.specs.live_model.layout_model.declared.lines.Kind.TheVariants.{File, Staging}
+use Rattle.eof_laws.specs.live_model.image_model.Live.{is_directory}
+use Rattle.eof_laws.specs.live_model.image_model.Volume.{extents, inode, Volume}
+use Rattle.eof_laws.specs.live_model.k_split_model.Spaces.{volume_space}
+use Rattle.eof_laws.specs.live_model.commute_laws.posix_types.declared.call.Call.{Call}
+use Rattle.eof_laws.specs.live_model.commute_laws.posix_types.declared.call.Who.{Who}
+use Rattle.eof_laws.specs.live_model.posix_tables.NameRows.{rmdir_rows, unlink_rows}
+use Rattle.eof_laws.specs.live_model.posix_tables.Open.{is_open}
+use Rattle.eof_laws.specs.live_model.posix_tables.Outcomes.{first}
+use Rattle.eof_laws.specs.live_model.posix_spec.Run.{after_call, run}
+use Rattle.eof_laws.specs.live_model.posix_spec.State.{State, unnamed as unnamed_state}
+use Rattle.eof_laws.specs.live_model.posix_laws.CutLaws.{names_cut}
+use Rattle.eof_laws.specs.live_model.posix_laws.Cuts.{cut_of}
+use Rattle.eof_laws.specs.live_model.world_model.Stands.{number}
+use Rattle.eof_laws.specs.live_model.world_step_laws.RemoveCalls.{swept-open}
 use Rattle.posix_mode_laws.specs.Sides.{sized}
 use Rattle.batch_laws.specs.Standing.{as_claims, staged_of}
 use Rattle.k_split_laws.specs.Going.{IsStep}

@@ -1,26 +1,26 @@
 -- The calls of POSIX mode behind which K-Split and what is kept of files are as they were, each law as one statement.
 use Rattle.std.specs.Prelude.{◌≡◌, ◌⊎◌, ℕ, true, false, List, [], ◌∷◌, ◌++◌, length, Option, Some}
-use Rattle.live_model.specs.layout_model.Places.{Geometry}
-use Rattle.live_model.specs.layout_model.declared.lines.Kind.TheVariants.{File}
-use Rattle.live_model.specs.image_model.Volume.{inode}
-use Rattle.live_model.specs.file_table.Files.{Files, size_in}
-use Rattle.live_model.specs.k_split_model.View.{View}
-use Rattle.live_model.specs.commute_laws.posix_types.declared.call.Call.{Call}
-use Rattle.live_model.specs.commute_laws.posix_types.declared.call.Who.{Who}
-use Rattle.live_model.specs.commute_laws.posix_types.declared.handle.Flags.{Flags}
-use Rattle.live_model.specs.commute_laws.posix_types.declared.handle.Handle.{Handle}
-use Rattle.live_model.specs.commute_laws.posix_types.declared.item.Item.{Item}
-use Rattle.live_model.specs.commute_laws.posix_types.declared.item.Outcome.{Outcome}
-use Rattle.live_model.specs.posix_tables.NameRows.{list_rows, mkdir_rows, open_rows, rename_rows, rmdir_rows, stat_rows, unlink_rows}
-use Rattle.live_model.specs.posix_tables.Names.{exists_at, is_named}
-use Rattle.live_model.specs.posix_tables.Nodes.{bytes_of, node_at, published_of}
-use Rattle.live_model.specs.posix_tables.Open.{closed, is_full, is_open}
-use Rattle.live_model.specs.posix_tables.Outcomes.{first}
-use Rattle.live_model.specs.posix_spec.FileRows.{close_rows, dup_rows, file_number, fsync_rows, read_rows, seek_rows, truncate_rows, write_rows, write_start}
-use Rattle.live_model.specs.posix_spec.Run.{after_call, begun, run}
-use Rattle.live_model.specs.posix_spec.State.{alone, space, State}
-use Rattle.live_model.specs.posix_spec.Step.{is_busy}
-use Rattle.live_model.specs.world_model.Stands.{number}
+use Rattle.eof_laws.specs.live_model.layout_model.Places.{Geometry}
+use Rattle.eof_laws.specs.live_model.layout_model.declared.lines.Kind.TheVariants.{File}
+use Rattle.eof_laws.specs.live_model.image_model.Volume.{inode}
+use Rattle.eof_laws.specs.live_model.file_table.Files.{Files, size_in}
+use Rattle.eof_laws.specs.live_model.k_split_model.View.{View}
+use Rattle.eof_laws.specs.live_model.commute_laws.posix_types.declared.call.Call.{Call}
+use Rattle.eof_laws.specs.live_model.commute_laws.posix_types.declared.call.Who.{Who}
+use Rattle.eof_laws.specs.live_model.commute_laws.posix_types.declared.handle.Flags.{Flags}
+use Rattle.eof_laws.specs.live_model.commute_laws.posix_types.declared.handle.Handle.{Handle}
+use Rattle.eof_laws.specs.live_model.commute_laws.posix_types.declared.item.Item.{Item}
+use Rattle.eof_laws.specs.live_model.commute_laws.posix_types.declared.item.Outcome.{Outcome}
+use Rattle.eof_laws.specs.live_model.posix_tables.NameRows.{list_rows, mkdir_rows, open_rows, rename_rows, rmdir_rows, stat_rows, unlink_rows}
+use Rattle.eof_laws.specs.live_model.posix_tables.Names.{exists_at, is_named}
+use Rattle.eof_laws.specs.live_model.posix_tables.Nodes.{bytes_of, node_at, published_of}
+use Rattle.eof_laws.specs.live_model.posix_tables.Open.{closed, is_full, is_open}
+use Rattle.eof_laws.specs.live_model.posix_tables.Outcomes.{first}
+use Rattle.eof_laws.specs.live_model.posix_spec.FileRows.{close_rows, dup_rows, file_number, fsync_rows, read_rows, seek_rows, truncate_rows, write_rows, write_start}
+use Rattle.eof_laws.specs.live_model.posix_spec.Run.{after_call, begun, run}
+use Rattle.eof_laws.specs.live_model.posix_spec.State.{alone, space, State}
+use Rattle.eof_laws.specs.live_model.posix_spec.Step.{is_busy}
+use Rattle.eof_laws.specs.live_model.world_model.Stands.{number}
 use Rattle.batch_laws.specs.Changes.{PutsNone}
 use Rattle.batch_laws.specs.Ready.{GoesReady}
 

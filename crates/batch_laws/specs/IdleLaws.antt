@@ -4,42 +4,42 @@ use Rattle.std.specs.Option.{option_or}
 use Rattle.std.proofs.Common.{arith, ap, ◌∙◌, sym, subst, inl, inr}
 use Rattle.std.proofs.lemmas.List.{length-take}
 use Rattle.std.proofs.Math.ListN.{get_or-map}
-use Rattle.live_model.specs.pm_model.Words.{Words}
-use Rattle.live_model.specs.pm_model.ImageLaws.{IsImage-words_of}
-use Rattle.live_model.specs.pm_model.Images.{words_of}
-use Rattle.live_model.specs.layout_model.declared.lines.Draft.{Draft}
-use Rattle.live_model.specs.layout_model.declared.lines.Kind.{Kind}
-use Rattle.live_model.specs.layout_model.declared.lines.Kind.TheVariants.{File}
-use Rattle.live_model.specs.image_model.Content.{size_of}
-use Rattle.live_model.specs.image_model.Volume.{Volume}
-use Rattle.live_model.specs.file_table.Files.{size_in}
-use Rattle.live_model.specs.commute_laws.posix_types.declared.call.Call.{Call}
-use Rattle.live_model.specs.commute_laws.posix_types.declared.call.Who.{Who}
-use Rattle.live_model.specs.commute_laws.posix_types.declared.handle.Flags.{Flags}
-use Rattle.live_model.specs.commute_laws.posix_types.declared.handle.Handle.{Handle}
-use Rattle.live_model.specs.commute_laws.posix_types.declared.item.Outcome.{Outcome}
-use Rattle.live_model.specs.commute_laws.posix_types.declared.reply.Errno.{Errno}
-use Rattle.live_model.specs.commute_laws.posix_types.declared.reply.Reply.{Reply}
-use Rattle.live_model.specs.commute_laws.posix_types.declared.reply.Shape.{Shape}
-use Rattle.live_model.specs.posix_tables.declared.nodes.Node.{Node}
-use Rattle.live_model.specs.posix_tables.Names.{exists_at, is_named, number_at}
-use Rattle.live_model.specs.posix_tables.Nodes.{bytes_of, node_at, published_node, published_of}
-use Rattle.live_model.specs.posix_tables.Open.{closed, is_open, opened, Tables}
-use Rattle.live_model.specs.posix_tables.Outcomes.{answer, first}
-use Rattle.live_model.specs.posix_spec.FileRows.{file_number, fsync_rows}
-use Rattle.live_model.specs.posix_spec.Put.{Put, put_by, put_unless}
-use Rattle.live_model.specs.posix_spec.Run.{after_call, begun, run}
-use Rattle.live_model.specs.posix_spec.State.{alone, Fits, made, space, State, swept, with_node, with_published}
-use Rattle.live_model.specs.posix_spec.Step.{close_done, dup_done, empty_file, list_done, open_done, opening, pread_done, read_done, seek_done, stat_done, step, stepped, Stepped}
-use Rattle.live_model.specs.posix_laws.Cuts.{cut_node, cut_of}
-use Rattle.live_model.specs.posix_laws.Lasting.{step_lasts}
-use Rattle.live_model.specs.posix_laws.RowLaws.{stepped-keeps}
-use Rattle.live_model.specs.crash_spec.Posix.{is_fsync, is_ok}
-use Rattle.live_model.specs.world_model.Stands.{is_used, NodeStands, number}
-use Rattle.live_model.specs.world_step_laws.OtherCalls.{IsWorld-same, SameShown}
-use Rattle.live_model.specs.world_step_laws.RemoveCalls.{swept-named, swept-open}
-use Rattle.live_model.specs.world_step_laws.Steps.{GoOn, shown_node}
-use Rattle.live_model.specs.world_step_laws.Worlds.{IsWorld}
+use Rattle.eof_laws.specs.live_model.pm_model.Words.{Words}
+use Rattle.eof_laws.specs.live_model.pm_model.ImageLaws.{IsImage-words_of}
+use Rattle.eof_laws.specs.live_model.pm_model.Images.{words_of}
+use Rattle.eof_laws.specs.live_model.layout_model.declared.lines.Draft.{Draft}
+use Rattle.eof_laws.specs.live_model.layout_model.declared.lines.Kind.{Kind}
+use Rattle.eof_laws.specs.live_model.layout_model.declared.lines.Kind.TheVariants.{File}
+use Rattle.eof_laws.specs.live_model.image_model.Content.{size_of}
+use Rattle.eof_laws.specs.live_model.image_model.Volume.{Volume}
+use Rattle.eof_laws.specs.live_model.file_table.Files.{size_in}
+use Rattle.eof_laws.specs.live_model.commute_laws.posix_types.declared.call.Call.{Call}
+use Rattle.eof_laws.specs.live_model.commute_laws.posix_types.declared.call.Who.{Who}
+use Rattle.eof_laws.specs.live_model.commute_laws.posix_types.declared.handle.Flags.{Flags}
+use Rattle.eof_laws.specs.live_model.commute_laws.posix_types.declared.handle.Handle.{Handle}
+use Rattle.eof_laws.specs.live_model.commute_laws.posix_types.declared.item.Outcome.{Outcome}
+use Rattle.eof_laws.specs.live_model.commute_laws.posix_types.declared.reply.Errno.{Errno}
+use Rattle.eof_laws.specs.live_model.commute_laws.posix_types.declared.reply.Reply.{Reply}
+use Rattle.eof_laws.specs.live_model.commute_laws.posix_types.declared.reply.Shape.{Shape}
+use Rattle.eof_laws.specs.live_model.posix_tables.declared.nodes.Node.{Node}
+use Rattle.eof_laws.specs.live_model.posix_tables.Names.{exists_at, is_named, number_at}
+use Rattle.eof_laws.specs.live_model.posix_tables.Nodes.{bytes_of, node_at, published_node, published_of}
+use Rattle.eof_laws.specs.live_model.posix_tables.Open.{closed, is_open, opened, Tables}
+use Rattle.eof_laws.specs.live_model.posix_tables.Outcomes.{answer, first}
+use Rattle.eof_laws.specs.live_model.posix_spec.FileRows.{file_number, fsync_rows}
+use Rattle.eof_laws.specs.live_model.posix_spec.Put.{Put, put_by, put_unless}
+use Rattle.eof_laws.specs.live_model.posix_spec.Run.{after_call, begun, run}
+use Rattle.eof_laws.specs.live_model.posix_spec.State.{alone, Fits, made, space, State, swept, with_node, with_published}
+use Rattle.eof_laws.specs.live_model.posix_spec.Step.{close_done, dup_done, empty_file, list_done, open_done, opening, pread_done, read_done, seek_done, stat_done, step, stepped, Stepped}
+use Rattle.eof_laws.specs.live_model.posix_laws.Cuts.{cut_node, cut_of}
+use Rattle.eof_laws.specs.live_model.posix_laws.Lasting.{step_lasts}
+use Rattle.eof_laws.specs.live_model.posix_laws.RowLaws.{stepped-keeps}
+use Rattle.eof_laws.specs.live_model.crash_spec.Posix.{is_fsync, is_ok}
+use Rattle.eof_laws.specs.live_model.world_model.Stands.{is_used, NodeStands, number}
+use Rattle.eof_laws.specs.live_model.world_step_laws.OtherCalls.{IsWorld-same, SameShown}
+use Rattle.eof_laws.specs.live_model.world_step_laws.RemoveCalls.{swept-named, swept-open}
+use Rattle.eof_laws.specs.live_model.world_step_laws.Steps.{GoOn, shown_node}
+use Rattle.eof_laws.specs.live_model.world_step_laws.Worlds.{IsWorld}
 use Rattle.posix_mode_laws.specs.Sides.{sized}
 use Rattle.batch_laws.specs.Standing.{as_claims, staged_of}
 use Rattle.k_split_laws.specs.Going.{IsStep}

@@ -29,5 +29,8 @@ pub mod Spaces
 pub mod SpacesLaws
 pub mod Beginnings
 pub mod BeginningsLaws
-pub use Rattle.live_model.specs as live_model
+pub mod Together
+pub mod Backs
+pub mod BacksLaws
+pub use Rattle.eof_laws.specs.live_model as live_model
 pub use Rattle.posix_mode_laws.specs as posix_mode_laws

@@ -2,27 +2,27 @@
 use Rattle.std.specs.Prelude.{◌≡◌, ◌≢◌, ◌+◌, ℕ, Bool, true, false, List, [], length, None, Some, is_some, option_map, refl}
 use Rattle.std.proofs.Common.{ap, ◌∙◌, sym, subst, inl}
 use Rattle.std.proofs.lemmas.List.{length-map}
-use Rattle.live_model.specs.layout_model.Places.{Geometry}
-use Rattle.live_model.specs.layout_model.declared.lines.Kind.TheVariants.{File, Free, Staging}
-use Rattle.live_model.specs.image_model.Volume.{extents, inode, Volume}
-use Rattle.live_model.specs.file_table.Files.{Files}
-use Rattle.live_model.specs.k_split_model.Spaces.{volume_space}
-use Rattle.live_model.specs.k_split_model.View.{View}
-use Rattle.live_model.specs.commute_laws.posix_types.declared.call.Call.{Call}
-use Rattle.live_model.specs.commute_laws.posix_types.declared.item.Item.{Item}
-use Rattle.live_model.specs.posix_tables.NameRows.{mkdir_rows, open_rows}
-use Rattle.live_model.specs.posix_tables.Names.{exists_at, node_at_path, Space}
-use Rattle.live_model.specs.posix_tables.Open.{is_full}
-use Rattle.live_model.specs.posix_tables.Outcomes.{first}
-use Rattle.live_model.specs.posix_spec.Run.{after_call, run}
-use Rattle.live_model.specs.posix_spec.State.{alone, space, State}
-use Rattle.live_model.specs.posix_spec.Step.{is_busy}
-use Rattle.live_model.specs.posix_laws.CutLaws.{names_cut, space_cut}
-use Rattle.live_model.specs.posix_laws.Cuts.{cut_node, cut_of}
-use Rattle.live_model.specs.world_model.Stands.{IsUsed, number}
-use Rattle.live_model.specs.world_step_laws.Makers.{renumbered, renumbered-other}
-use Rattle.live_model.specs.world_step_laws.Mirrors.{Mirrors, node_at_path-same}
-use Rattle.live_model.specs.world_step_laws.Worlds.{world_mirror}
+use Rattle.eof_laws.specs.live_model.layout_model.Places.{Geometry}
+use Rattle.eof_laws.specs.live_model.layout_model.declared.lines.Kind.TheVariants.{File, Free, Staging}
+use Rattle.eof_laws.specs.live_model.image_model.Volume.{extents, inode, Volume}
+use Rattle.eof_laws.specs.live_model.file_table.Files.{Files}
+use Rattle.eof_laws.specs.live_model.k_split_model.Spaces.{volume_space}
+use Rattle.eof_laws.specs.live_model.k_split_model.View.{View}
+use Rattle.eof_laws.specs.live_model.commute_laws.posix_types.declared.call.Call.{Call}
+use Rattle.eof_laws.specs.live_model.commute_laws.posix_types.declared.item.Item.{Item}
+use Rattle.eof_laws.specs.live_model.posix_tables.NameRows.{mkdir_rows, open_rows}
+use Rattle.eof_laws.specs.live_model.posix_tables.Names.{exists_at, node_at_path, Space}
+use Rattle.eof_laws.specs.live_model.posix_tables.Open.{is_full}
+use Rattle.eof_laws.specs.live_model.posix_tables.Outcomes.{first}
+use Rattle.eof_laws.specs.live_model.posix_spec.Run.{after_call, run}
+use Rattle.eof_laws.specs.live_model.posix_spec.State.{alone, space, State}
+use Rattle.eof_laws.specs.live_model.posix_spec.Step.{is_busy}
+use Rattle.eof_laws.specs.live_model.posix_laws.CutLaws.{names_cut, space_cut}
+use Rattle.eof_laws.specs.live_model.posix_laws.Cuts.{cut_node, cut_of}
+use Rattle.eof_laws.specs.live_model.world_model.Stands.{IsUsed, number}
+use Rattle.eof_laws.specs.live_model.world_step_laws.Makers.{renumbered, renumbered-other}
+use Rattle.eof_laws.specs.live_model.world_step_laws.Mirrors.{Mirrors, node_at_path-same}
+use Rattle.eof_laws.specs.live_model.world_step_laws.Worlds.{world_mirror}
 use Rattle.posix_mode_laws.specs.ClaimsLaws.{space_sized}
 use Rattle.posix_mode_laws.specs.Sides.{sized}
 use Rattle.batch_laws.specs.Standing.{as_claims, staged_of}

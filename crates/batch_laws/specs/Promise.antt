@@ -1,15 +1,15 @@
 -- The promise of the device between two calls, with its log lines at home, each law as one statement.
 use Rattle.std.specs.Prelude.{◌≡◌, ◌≤◌, ◌+◌, ℕ, List, [], length}
-use Rattle.live_model.specs.layout_model.Places.{Geometry, reserve}
-use Rattle.live_model.specs.image_model.Room.{unused_blocks}
-use Rattle.live_model.specs.file_table.Files.{Files}
-use Rattle.live_model.specs.k_split_model.View.{View}
-use Rattle.live_model.specs.commute_laws.posix_types.declared.item.Item.{Item}
-use Rattle.live_model.specs.posix_spec.Run.{Unfinished}
-use Rattle.live_model.specs.posix_spec.State.{State}
-use Rattle.live_model.specs.crash_spec.Posix.{LastBeforeCut}
-use Rattle.live_model.specs.world_image_laws.Images.{HasLogHome}
-use Rattle.live_model.specs.world_image_laws.Promised.{KeepsPromise}
+use Rattle.eof_laws.specs.live_model.layout_model.Places.{Geometry, reserve}
+use Rattle.eof_laws.specs.live_model.image_model.Room.{unused_blocks}
+use Rattle.eof_laws.specs.live_model.file_table.Files.{Files}
+use Rattle.eof_laws.specs.live_model.k_split_model.View.{View}
+use Rattle.eof_laws.specs.live_model.commute_laws.posix_types.declared.item.Item.{Item}
+use Rattle.eof_laws.specs.live_model.posix_spec.Run.{Unfinished}
+use Rattle.eof_laws.specs.live_model.posix_spec.State.{State}
+use Rattle.eof_laws.specs.live_model.crash_spec.Posix.{LastBeforeCut}
+use Rattle.eof_laws.specs.live_model.world_image_laws.Images.{HasLogHome}
+use Rattle.eof_laws.specs.live_model.world_image_laws.Promised.{KeepsPromise}
 use Rattle.posix_mode_laws.specs.Device.{KeepsStrongly, PosixRuns}
 use Rattle.batch_laws.specs.Standing.{PosixGoing, sides_of, staged_of}
 

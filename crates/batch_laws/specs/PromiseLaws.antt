@@ -1,21 +1,21 @@
 -- The promise of the device between two calls.
 use Rattle.std.specs.Prelude.{◌≡◌, ◌≤◌, ◌+◌, ℕ, List, ◌++◌, map}
 use Rattle.std.proofs.Common.{ap, ◌∙◌, sym, subst}
-use Rattle.live_model.specs.pm_model.Images.{IsImage}
-use Rattle.live_model.specs.pm_model.Words.{Words}
-use Rattle.live_model.specs.layout_model.Journal.{journaled}
-use Rattle.live_model.specs.layout_model.Places.{data_blocks, Geometry, IsGeometry}
-use Rattle.live_model.specs.image_model.Content.{content}
-use Rattle.live_model.specs.file_table.Files.{Files}
-use Rattle.live_model.specs.k_split_model.View.{View}
-use Rattle.live_model.specs.commute_laws.posix_types.declared.item.Item.{Item}
-use Rattle.live_model.specs.posix_spec.Run.{begun, run}
-use Rattle.live_model.specs.posix_spec.State.{State}
-use Rattle.live_model.specs.posix_laws.Lasting.{run_lasts}
-use Rattle.live_model.specs.crash_spec.Posix.{LastBeforeCut, StrongPosix}
-use Rattle.live_model.specs.world_model.Shown.{IsTreeOfContent}
-use Rattle.live_model.specs.world_image_laws.Images.{IsHeaded}
-use Rattle.live_model.specs.world_image_laws.Promised.{KeepsPromise}
+use Rattle.eof_laws.specs.live_model.pm_model.Images.{IsImage}
+use Rattle.eof_laws.specs.live_model.pm_model.Words.{Words}
+use Rattle.eof_laws.specs.live_model.layout_model.Journal.{journaled}
+use Rattle.eof_laws.specs.live_model.layout_model.Places.{data_blocks, Geometry, IsGeometry}
+use Rattle.eof_laws.specs.live_model.image_model.Content.{content}
+use Rattle.eof_laws.specs.live_model.file_table.Files.{Files}
+use Rattle.eof_laws.specs.live_model.k_split_model.View.{View}
+use Rattle.eof_laws.specs.live_model.commute_laws.posix_types.declared.item.Item.{Item}
+use Rattle.eof_laws.specs.live_model.posix_spec.Run.{begun, run}
+use Rattle.eof_laws.specs.live_model.posix_spec.State.{State}
+use Rattle.eof_laws.specs.live_model.posix_laws.Lasting.{run_lasts}
+use Rattle.eof_laws.specs.live_model.crash_spec.Posix.{LastBeforeCut, StrongPosix}
+use Rattle.eof_laws.specs.live_model.world_model.Shown.{IsTreeOfContent}
+use Rattle.eof_laws.specs.live_model.world_image_laws.Images.{IsHeaded}
+use Rattle.eof_laws.specs.live_model.world_image_laws.Promised.{KeepsPromise}
 use Rattle.posix_mode_laws.specs.Beginning.{no_entry}
 use Rattle.posix_mode_laws.specs.CutStands.{left_fits}
 use Rattle.posix_mode_laws.specs.Device.{ShowsPosixWorld}

@@ -1,12 +1,12 @@
 -- The calls that put no byte, shorten no file and are no `fsync`.
 use Rattle.std.specs.Prelude.{◌≡◌, ◌⊎◌, false, None}
-use Rattle.live_model.specs.commute_laws.posix_types.declared.call.Call.{Call}
-use Rattle.live_model.specs.commute_laws.posix_types.declared.item.Item.{Item}
-use Rattle.live_model.specs.posix_tables.Names.{exists_at}
-use Rattle.live_model.specs.posix_spec.Put.{put_by}
-use Rattle.live_model.specs.posix_spec.Run.{after_call, begun}
-use Rattle.live_model.specs.posix_spec.State.{space, State}
-use Rattle.live_model.specs.crash_spec.Posix.{syncs}
+use Rattle.eof_laws.specs.live_model.commute_laws.posix_types.declared.call.Call.{Call}
+use Rattle.eof_laws.specs.live_model.commute_laws.posix_types.declared.item.Item.{Item}
+use Rattle.eof_laws.specs.live_model.posix_tables.Names.{exists_at}
+use Rattle.eof_laws.specs.live_model.posix_spec.Put.{put_by}
+use Rattle.eof_laws.specs.live_model.posix_spec.Run.{after_call, begun}
+use Rattle.eof_laws.specs.live_model.posix_spec.State.{space, State}
+use Rattle.eof_laws.specs.live_model.crash_spec.Posix.{syncs}
 use Rattle.batch_laws.specs.Changes.{PutsNone}
 
 -- the calls of names, an `open` that cuts no file, `close`, and what only looks or seeks

@@ -4,24 +4,24 @@ use Rattle.std.proofs.Common.{arith, ap, ◌∙◌, sym, subst, inl, inr}
 use Rattle.std.proofs.lemmas.Bool.{cases_lt}
 use Rattle.std.proofs.lemmas.Bool.Decides.{nat_tests}
 use Rattle.std.proofs.lemmas.List.{get_or_past}
-use Rattle.live_model.specs.commute_laws.posix_types.declared.call.Call.{Call}
-use Rattle.live_model.specs.commute_laws.posix_types.declared.call.Who.{Who}
-use Rattle.live_model.specs.commute_laws.posix_types.declared.handle.Handle.{Handle}
-use Rattle.live_model.specs.commute_laws.posix_types.declared.reply.Reply.{Reply}
-use Rattle.live_model.specs.posix_tables.declared.nodes.Node.{Node}
-use Rattle.live_model.specs.posix_tables.Names.{directory_stands, exists_at, file_stands, is_named, number_at}
-use Rattle.live_model.specs.posix_tables.Nodes.{bytes_of, node_at, published_node}
-use Rattle.live_model.specs.posix_tables.Open.{closed, is_open}
-use Rattle.live_model.specs.posix_spec.FileRows.{file_number}
-use Rattle.live_model.specs.posix_spec.Put.{put_by}
-use Rattle.live_model.specs.posix_spec.Run.{after_call, begun}
-use Rattle.live_model.specs.posix_spec.State.{alone, made, space, State, swept, unnamed, with_node, with_published}
-use Rattle.live_model.specs.posix_spec.Step.{close_done, dup_done, empty_file, list_done, mkdir_done, open_done, opening, pread_done, read_done, rename_done, renamed, rmdir_done, seek_done, stat_done, step, unlink_done}
-use Rattle.live_model.specs.posix_laws.PublishLaws.{node_pushed, node_set}
-use Rattle.live_model.specs.posix_laws.RowLaws.{stepped-keeps}
-use Rattle.live_model.specs.posix_laws.Shortens.{ends_before}
-use Rattle.live_model.specs.crash_spec.Posix.{is_fsync, is_ok}
-use Rattle.live_model.specs.crash_spec.Values.{value_of}
+use Rattle.eof_laws.specs.live_model.commute_laws.posix_types.declared.call.Call.{Call}
+use Rattle.eof_laws.specs.live_model.commute_laws.posix_types.declared.call.Who.{Who}
+use Rattle.eof_laws.specs.live_model.commute_laws.posix_types.declared.handle.Handle.{Handle}
+use Rattle.eof_laws.specs.live_model.commute_laws.posix_types.declared.reply.Reply.{Reply}
+use Rattle.eof_laws.specs.live_model.posix_tables.declared.nodes.Node.{Node}
+use Rattle.eof_laws.specs.live_model.posix_tables.Names.{directory_stands, exists_at, file_stands, is_named, number_at}
+use Rattle.eof_laws.specs.live_model.posix_tables.Nodes.{bytes_of, node_at, published_node}
+use Rattle.eof_laws.specs.live_model.posix_tables.Open.{closed, is_open}
+use Rattle.eof_laws.specs.live_model.posix_spec.FileRows.{file_number}
+use Rattle.eof_laws.specs.live_model.posix_spec.Put.{put_by}
+use Rattle.eof_laws.specs.live_model.posix_spec.Run.{after_call, begun}
+use Rattle.eof_laws.specs.live_model.posix_spec.State.{alone, made, space, State, swept, unnamed, with_node, with_published}
+use Rattle.eof_laws.specs.live_model.posix_spec.Step.{close_done, dup_done, empty_file, list_done, mkdir_done, open_done, opening, pread_done, read_done, rename_done, renamed, rmdir_done, seek_done, stat_done, step, unlink_done}
+use Rattle.eof_laws.specs.live_model.posix_laws.PublishLaws.{node_pushed, node_set}
+use Rattle.eof_laws.specs.live_model.posix_laws.RowLaws.{stepped-keeps}
+use Rattle.eof_laws.specs.live_model.posix_laws.Shortens.{ends_before}
+use Rattle.eof_laws.specs.live_model.crash_spec.Posix.{is_fsync, is_ok}
+use Rattle.eof_laws.specs.live_model.crash_spec.Values.{value_of}
 use Rattle.batch_laws.specs.Quiet.{IsQuiet, QuietPutsNone, RefusedPutsNone}
 
 -- a node goes, or has the bytes that it had, or had none

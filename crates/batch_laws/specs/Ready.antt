@@ -1,13 +1,13 @@
 -- The standing between two calls, with what a commit and the runs that are staged ask for.
 use Rattle.std.specs.Prelude.{◌≡◌, ◌≢◌, ◌≤◌, ◌+◌, ℕ, List, [], length}
-use Rattle.live_model.specs.layout_model.Places.{Geometry, reserve}
-use Rattle.live_model.specs.layout_model.declared.lines.Kind.TheVariants.{File, Staging}
-use Rattle.live_model.specs.image_model.Room.{unused_blocks}
-use Rattle.live_model.specs.image_model.Volume.{extents, inode, Volume}
-use Rattle.live_model.specs.file_table.Files.{Files}
-use Rattle.live_model.specs.k_split_model.View.{View}
-use Rattle.live_model.specs.commute_laws.posix_types.declared.item.Item.{Item}
-use Rattle.live_model.specs.posix_spec.State.{State}
+use Rattle.eof_laws.specs.live_model.layout_model.Places.{Geometry, reserve}
+use Rattle.eof_laws.specs.live_model.layout_model.declared.lines.Kind.TheVariants.{File, Staging}
+use Rattle.eof_laws.specs.live_model.image_model.Room.{unused_blocks}
+use Rattle.eof_laws.specs.live_model.image_model.Volume.{extents, inode, Volume}
+use Rattle.eof_laws.specs.live_model.file_table.Files.{Files}
+use Rattle.eof_laws.specs.live_model.k_split_model.View.{View}
+use Rattle.eof_laws.specs.live_model.commute_laws.posix_types.declared.item.Item.{Item}
+use Rattle.eof_laws.specs.live_model.posix_spec.State.{State}
 use Rattle.batch_laws.specs.Standing.{PosixGoing, staged_of}
 
 -- what is no file and no staging file has no block

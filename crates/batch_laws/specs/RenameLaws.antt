@@ -1,24 +1,24 @@
 -- A name moves, while changes gather.
 use Rattle.std.specs.Prelude.{◌≡◌, ◌≢◌, ◌<◌, ℕ, Bool, true, false, List, [], length, Option, None, Some, slice_index, if◌then◌else◌, refl}
 use Rattle.std.proofs.Common.{ap, ◌∙◌, sym, subst}
-use Rattle.live_model.specs.layout_model.Places.{Geometry}
-use Rattle.live_model.specs.layout_model.Lines.{NameRow}
-use Rattle.live_model.specs.layout_model.declared.lines.Draft.{Draft}
-use Rattle.live_model.specs.layout_model.declared.lines.Kind.TheVariants.{File, Staging}
-use Rattle.live_model.specs.image_model.Live.{is_directory}
-use Rattle.live_model.specs.image_model.Volume.{inode, Volume}
-use Rattle.live_model.specs.k_split_model.ChangesChanges.{dropped, renamed_over_directory, renamed_over_file}
-use Rattle.live_model.specs.k_split_model.Spaces.{is_directory_in, volume_space}
-use Rattle.live_model.specs.commute_laws.posix_types.declared.call.Call.{Call}
-use Rattle.live_model.specs.commute_laws.posix_types.declared.call.Who.{Who}
-use Rattle.live_model.specs.posix_tables.NameRows.{rename_rows}
-use Rattle.live_model.specs.posix_tables.Open.{is_open}
-use Rattle.live_model.specs.posix_tables.Outcomes.{first}
-use Rattle.live_model.specs.posix_spec.Run.{after_call, run}
-use Rattle.live_model.specs.posix_spec.State.{alone, State, swept}
-use Rattle.live_model.specs.posix_laws.CutLaws.{names_cut}
-use Rattle.live_model.specs.posix_laws.Cuts.{cut_of}
-use Rattle.live_model.specs.world_model.Stands.{number}
+use Rattle.eof_laws.specs.live_model.layout_model.Places.{Geometry}
+use Rattle.eof_laws.specs.live_model.layout_model.Lines.{NameRow}
+use Rattle.eof_laws.specs.live_model.layout_model.declared.lines.Draft.{Draft}
+use Rattle.eof_laws.specs.live_model.layout_model.declared.lines.Kind.TheVariants.{File, Staging}
+use Rattle.eof_laws.specs.live_model.image_model.Live.{is_directory}
+use Rattle.eof_laws.specs.live_model.image_model.Volume.{inode, Volume}
+use Rattle.eof_laws.specs.live_model.k_split_model.ChangesChanges.{dropped, renamed_over_directory, renamed_over_file}
+use Rattle.eof_laws.specs.live_model.k_split_model.Spaces.{is_directory_in, volume_space}
+use Rattle.eof_laws.specs.live_model.commute_laws.posix_types.declared.call.Call.{Call}
+use Rattle.eof_laws.specs.live_model.commute_laws.posix_types.declared.call.Who.{Who}
+use Rattle.eof_laws.specs.live_model.posix_tables.NameRows.{rename_rows}
+use Rattle.eof_laws.specs.live_model.posix_tables.Open.{is_open}
+use Rattle.eof_laws.specs.live_model.posix_tables.Outcomes.{first}
+use Rattle.eof_laws.specs.live_model.posix_spec.Run.{after_call, run}
+use Rattle.eof_laws.specs.live_model.posix_spec.State.{alone, State, swept}
+use Rattle.eof_laws.specs.live_model.posix_laws.CutLaws.{names_cut}
+use Rattle.eof_laws.specs.live_model.posix_laws.Cuts.{cut_of}
+use Rattle.eof_laws.specs.live_model.world_model.Stands.{number}
 use Rattle.posix_mode_laws.specs.Sides.{sized}
 use Rattle.batch_laws.specs.Standing.{as_claims, staged_of}
 use Rattle.k_split_laws.specs.Ends.{renames_over_file_seen}
@@ -29,7 +29,7 @@ use Rattle.k_split_laws.specs.Steps.{steps_dropped_seen}
 use Rattle.k_split_laws.specs.k_plans.Renaming.{file_over, IsRenamed, renamed_over}
 use Rattle.k_split_laws.specs.k_tables.declared.tables.removing.Entry.{Entry}
 use Rattle.k_split_laws.specs.layout_model.Spelling.{AreSpelled}
-use Rattle.live_model.specs.world_step_laws.RemoveCalls.{swept-open}
+use Rattle.eof_laws.specs.live_model.world_step_laws.RemoveCalls.{swept-open}
 use Rattle.k_split_laws.specs.volume_change_laws.CallLaws.{row_to}
 use Rattle.k_split_laws.specs.volume_change_laws.Changes.{MayDrop}
 use Rattle.batch_laws.specs.Calls.{IsOpenIfLost, RenameDropGoesOn, RenameGoesOn}

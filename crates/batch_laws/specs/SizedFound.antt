@@ -2,17 +2,17 @@
 use Rattle.std.specs.Prelude.{◌≡◌, ◌≢◌, ◌<◌, ◌+◌, ℕ, Bool, true, false, not, cond, count_by, List, [], ◌∷◌, length, nat_lt, Option, Some, None, slice_index, if◌then◌else◌, refl}
 use Rattle.std.specs.List.{flat_map, position_or_len, range_with_len}
 use Rattle.std.proofs.Common.{ap, ◌∙◌, sym, subst}
-use Rattle.live_model.specs.layout_model.Places.{data_blocks, first_data}
-use Rattle.live_model.specs.layout_model.Lines.{NameRow}
-use Rattle.live_model.specs.layout_model.declared.lines.Inode.{Inode}
-use Rattle.live_model.specs.layout_model.declared.lines.Kind.TheVariants.{File}
-use Rattle.live_model.specs.image_model.Live.{is_directory}
-use Rattle.live_model.specs.image_model.Room.{has_none, unused_blocks}
-use Rattle.live_model.specs.image_model.Uses.{owners, uses_by}
-use Rattle.live_model.specs.image_model.Volume.{chain, extents, inode, Volume}
-use Rattle.live_model.specs.k_split_model.ChangesChanges.{renamed_over_directory, renamed_over_file}
-use Rattle.live_model.specs.k_split_model.Spaces.{is_directory_in, is_free, volume_space}
-use Rattle.live_model.specs.posix_tables.Names.{Space}
+use Rattle.eof_laws.specs.live_model.layout_model.Places.{data_blocks, first_data}
+use Rattle.eof_laws.specs.live_model.layout_model.Lines.{NameRow}
+use Rattle.eof_laws.specs.live_model.layout_model.declared.lines.Inode.{Inode}
+use Rattle.eof_laws.specs.live_model.layout_model.declared.lines.Kind.TheVariants.{File}
+use Rattle.eof_laws.specs.live_model.image_model.Live.{is_directory}
+use Rattle.eof_laws.specs.live_model.image_model.Room.{has_none, unused_blocks}
+use Rattle.eof_laws.specs.live_model.image_model.Uses.{owners, uses_by}
+use Rattle.eof_laws.specs.live_model.image_model.Volume.{chain, extents, inode, Volume}
+use Rattle.eof_laws.specs.live_model.k_split_model.ChangesChanges.{renamed_over_directory, renamed_over_file}
+use Rattle.eof_laws.specs.live_model.k_split_model.Spaces.{is_directory_in, is_free, volume_space}
+use Rattle.eof_laws.specs.live_model.posix_tables.Names.{Space}
 use Rattle.posix_mode_laws.specs.ChangesLaws.{sized_made, sized_removed, sized_renamed_over_directory}
 use Rattle.posix_mode_laws.specs.ClaimsLaws.{space_sized}
 use Rattle.posix_mode_laws.specs.Sides.{sized, with_sizes}

@@ -1,15 +1,15 @@
 -- What the look-ups over the batch say of the state of the calls, each law as one statement.
 use Rattle.std.specs.Prelude.{◌≡◌, ℕ, List, option_map}
-use Rattle.live_model.specs.layout_model.Places.{Geometry}
-use Rattle.live_model.specs.file_table.Files.{Files}
-use Rattle.live_model.specs.k_split_model.Spaces.{volume_space}
-use Rattle.live_model.specs.k_split_model.View.{View}
-use Rattle.live_model.specs.commute_laws.posix_types.declared.item.Item.{Item}
-use Rattle.live_model.specs.posix_tables.Names.{node_at_path}
-use Rattle.live_model.specs.posix_spec.Run.{run}
-use Rattle.live_model.specs.posix_spec.State.{space, State}
-use Rattle.live_model.specs.world_model.Stands.{number}
-use Rattle.live_model.specs.world_step_laws.Rows.{HaveSameRows}
+use Rattle.eof_laws.specs.live_model.layout_model.Places.{Geometry}
+use Rattle.eof_laws.specs.live_model.file_table.Files.{Files}
+use Rattle.eof_laws.specs.live_model.k_split_model.Spaces.{volume_space}
+use Rattle.eof_laws.specs.live_model.k_split_model.View.{View}
+use Rattle.eof_laws.specs.live_model.commute_laws.posix_types.declared.item.Item.{Item}
+use Rattle.eof_laws.specs.live_model.posix_tables.Names.{node_at_path}
+use Rattle.eof_laws.specs.live_model.posix_spec.Run.{run}
+use Rattle.eof_laws.specs.live_model.posix_spec.State.{space, State}
+use Rattle.eof_laws.specs.live_model.world_model.Stands.{number}
+use Rattle.eof_laws.specs.live_model.world_step_laws.Rows.{HaveSameRows}
 use Rattle.batch_laws.specs.Ready.{GoesReady}
 
 -- The rows of each call on a path are those of the state: by the same row it is refused.

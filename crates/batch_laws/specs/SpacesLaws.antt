@@ -1,20 +1,20 @@
 -- What the look-ups over the batch say of the state of the calls.
 use Rattle.std.specs.Prelude.{ℕ, List, []}
 use Rattle.std.proofs.Common.{subst}
-use Rattle.live_model.specs.layout_model.Places.{Geometry}
-use Rattle.live_model.specs.file_table.Files.{Files}
-use Rattle.live_model.specs.k_split_model.Spaces.{volume_space}
-use Rattle.live_model.specs.k_split_model.View.{View}
-use Rattle.live_model.specs.commute_laws.posix_types.declared.item.Item.{Item}
-use Rattle.live_model.specs.posix_tables.Names.{Space}
-use Rattle.live_model.specs.posix_spec.Run.{run}
-use Rattle.live_model.specs.posix_spec.State.{space, State}
-use Rattle.live_model.specs.posix_laws.CutLaws.{space_cut}
-use Rattle.live_model.specs.posix_laws.Cuts.{cut_of}
-use Rattle.live_model.specs.world_model.Stands.{IsUsed}
-use Rattle.live_model.specs.world_step_laws.Mirrors.{Mirrors, node_at_path-same}
-use Rattle.live_model.specs.world_step_laws.Rows.{HaveSameRows-Mirrors}
-use Rattle.live_model.specs.world_step_laws.Worlds.{world_mirror}
+use Rattle.eof_laws.specs.live_model.layout_model.Places.{Geometry}
+use Rattle.eof_laws.specs.live_model.file_table.Files.{Files}
+use Rattle.eof_laws.specs.live_model.k_split_model.Spaces.{volume_space}
+use Rattle.eof_laws.specs.live_model.k_split_model.View.{View}
+use Rattle.eof_laws.specs.live_model.commute_laws.posix_types.declared.item.Item.{Item}
+use Rattle.eof_laws.specs.live_model.posix_tables.Names.{Space}
+use Rattle.eof_laws.specs.live_model.posix_spec.Run.{run}
+use Rattle.eof_laws.specs.live_model.posix_spec.State.{space, State}
+use Rattle.eof_laws.specs.live_model.posix_laws.CutLaws.{space_cut}
+use Rattle.eof_laws.specs.live_model.posix_laws.Cuts.{cut_of}
+use Rattle.eof_laws.specs.live_model.world_model.Stands.{IsUsed}
+use Rattle.eof_laws.specs.live_model.world_step_laws.Mirrors.{Mirrors, node_at_path-same}
+use Rattle.eof_laws.specs.live_model.world_step_laws.Rows.{HaveSameRows-Mirrors}
+use Rattle.eof_laws.specs.live_model.world_step_laws.Worlds.{world_mirror}
 use Rattle.batch_laws.specs.CallSteps.{cut_seen}
 use Rattle.batch_laws.specs.Ready.{GoesReady}
 use Rattle.batch_laws.specs.Spaces.{PathsLeadAlike, RowsAreAlike}

@@ -1,33 +1,33 @@
 -- The standing of POSIX mode over K-Split, after a history.
 use Rattle.std.specs.Prelude.{◌≡◌, ◌≢◌, ◌≤◌, ◌+◌, ℕ, true, false, List, [], ◌++◌, length, map}
 use Rattle.std.specs.List.{flat_map, range_with_len}
-use Rattle.live_model.specs.pm_model.Cells.{cell, is_lent}
-use Rattle.live_model.specs.pm_model.Images.{IsImage}
-use Rattle.live_model.specs.pm_model.Words.{Words}
-use Rattle.live_model.specs.layout_model.Journal.{journaled}
-use Rattle.live_model.specs.layout_model.Places.{data_blocks, Geometry, IsGeometry, reserve}
-use Rattle.live_model.specs.layout_model.declared.lines.Draft.{Draft}
-use Rattle.live_model.specs.layout_model.declared.lines.Kind.TheVariants.{File}
-use Rattle.live_model.specs.image_model.Live.{is_live}
-use Rattle.live_model.specs.image_model.Room.{unused_blocks}
-use Rattle.live_model.specs.image_model.Volume.{inode, Volume}
-use Rattle.live_model.specs.file_overlay.declared.runs.Run.{Run}
-use Rattle.live_model.specs.file_table.Files.{Files, runs_in, size_in}
-use Rattle.live_model.specs.k_split.Order.{IsInOrder}
-use Rattle.live_model.specs.k_split_model.View.{View}
-use Rattle.live_model.specs.list_laws.Members.{In}
-use Rattle.live_model.specs.commute_laws.posix_types.declared.call.Mode.{Mode}
-use Rattle.live_model.specs.commute_laws.posix_types.declared.item.Item.{Item}
-use Rattle.live_model.specs.posix_spec.Run.{run}
-use Rattle.live_model.specs.posix_spec.State.{Fits, State}
-use Rattle.live_model.specs.posix_laws.Publishes.{IsPublishing}
-use Rattle.live_model.specs.crash_spec.Posix.{LastBeforeCut}
-use Rattle.live_model.specs.world_model.Rules.{HasFreeBlocks}
-use Rattle.live_model.specs.world_step_laws.Ages.{AreAged}
-use Rattle.live_model.specs.world_step_laws.Counts.{HasShape}
-use Rattle.live_model.specs.world_image_laws.Images.{IsHeaded}
-use Rattle.live_model.specs.Flying.{IsOut}
-use Rattle.live_model.specs.Standing.{IsQuietBeside}
+use Rattle.eof_laws.specs.live_model.pm_model.Cells.{cell, is_lent}
+use Rattle.eof_laws.specs.live_model.pm_model.Images.{IsImage}
+use Rattle.eof_laws.specs.live_model.pm_model.Words.{Words}
+use Rattle.eof_laws.specs.live_model.layout_model.Journal.{journaled}
+use Rattle.eof_laws.specs.live_model.layout_model.Places.{data_blocks, Geometry, IsGeometry, reserve}
+use Rattle.eof_laws.specs.live_model.layout_model.declared.lines.Draft.{Draft}
+use Rattle.eof_laws.specs.live_model.layout_model.declared.lines.Kind.TheVariants.{File}
+use Rattle.eof_laws.specs.live_model.image_model.Live.{is_live}
+use Rattle.eof_laws.specs.live_model.image_model.Room.{unused_blocks}
+use Rattle.eof_laws.specs.live_model.image_model.Volume.{inode, Volume}
+use Rattle.eof_laws.specs.live_model.file_overlay.declared.runs.Run.{Run}
+use Rattle.eof_laws.specs.live_model.file_table.Files.{Files, runs_in, size_in}
+use Rattle.eof_laws.specs.live_model.k_split.Order.{IsInOrder}
+use Rattle.eof_laws.specs.live_model.k_split_model.View.{View}
+use Rattle.eof_laws.specs.live_model.list_laws.Members.{In}
+use Rattle.eof_laws.specs.live_model.commute_laws.posix_types.declared.call.Mode.{Mode}
+use Rattle.eof_laws.specs.live_model.commute_laws.posix_types.declared.item.Item.{Item}
+use Rattle.eof_laws.specs.live_model.posix_spec.Run.{run}
+use Rattle.eof_laws.specs.live_model.posix_spec.State.{Fits, State}
+use Rattle.eof_laws.specs.live_model.posix_laws.Publishes.{IsPublishing}
+use Rattle.eof_laws.specs.live_model.crash_spec.Posix.{LastBeforeCut}
+use Rattle.eof_laws.specs.live_model.world_model.Rules.{HasFreeBlocks}
+use Rattle.eof_laws.specs.live_model.world_step_laws.Ages.{AreAged}
+use Rattle.eof_laws.specs.live_model.world_step_laws.Counts.{HasShape}
+use Rattle.eof_laws.specs.live_model.world_image_laws.Images.{IsHeaded}
+use Rattle.eof_laws.specs.live_model.Flying.{IsOut}
+use Rattle.eof_laws.specs.live_model.Standing.{IsQuietBeside}
 use Rattle.posix_mode_laws.specs.Sides.{PosixWorld, Sides}
 
 -- a run that is staged, as an entry: of its file and its staging file as the batch has them, with the length that the file has in memory

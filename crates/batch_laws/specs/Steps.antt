@@ -1,24 +1,24 @@
 -- Steps of the batch: what two Worlds and its blocks make of it, and the log lines behind it, each law as one statement.
 use Rattle.std.specs.Prelude.{◌≡◌, ◌⊎◌, ◌<◌, ℕ, true, List, [], ◌++◌, length, Option, Some}
-use Rattle.live_model.specs.pm_model.declared.Cell.{Cell}
-use Rattle.live_model.specs.pm_model.Words.{Words}
-use Rattle.live_model.specs.layout_model.declared.lines.Draft.{Draft}
-use Rattle.live_model.specs.layout_model.declared.lines.Kind.TheVariants.{Staging}
-use Rattle.live_model.specs.extent_model.Extents.{disk_at}
-use Rattle.live_model.specs.image_model.Content.{disk_of}
-use Rattle.live_model.specs.image_model.Live.{is_live}
-use Rattle.live_model.specs.image_model.Placed.{block_at}
-use Rattle.live_model.specs.image_model.Volume.{chain, extents, inode, Volume}
-use Rattle.live_model.specs.file_table.Files.{Files}
-use Rattle.live_model.specs.list_laws.Members.{In}
-use Rattle.live_model.specs.commute_laws.posix_types.declared.item.Item.{Item}
-use Rattle.live_model.specs.posix_spec.Run.{run}
-use Rattle.live_model.specs.posix_spec.State.{State}
-use Rattle.live_model.specs.posix_laws.Cuts.{cut_of}
-use Rattle.live_model.specs.world_model.Jobs.{Job}
-use Rattle.live_model.specs.world_model.Lines.{AreLinesOut}
-use Rattle.live_model.specs.world_model.Stands.{IsUsed, number}
-use Rattle.live_model.specs.world_step_laws.Worlds.{IsWorld}
+use Rattle.eof_laws.specs.live_model.pm_model.declared.Cell.{Cell}
+use Rattle.eof_laws.specs.live_model.pm_model.Words.{Words}
+use Rattle.eof_laws.specs.live_model.layout_model.declared.lines.Draft.{Draft}
+use Rattle.eof_laws.specs.live_model.layout_model.declared.lines.Kind.TheVariants.{Staging}
+use Rattle.eof_laws.specs.live_model.extent_model.Extents.{disk_at}
+use Rattle.eof_laws.specs.live_model.image_model.Content.{disk_of}
+use Rattle.eof_laws.specs.live_model.image_model.Live.{is_live}
+use Rattle.eof_laws.specs.live_model.image_model.Placed.{block_at}
+use Rattle.eof_laws.specs.live_model.image_model.Volume.{chain, extents, inode, Volume}
+use Rattle.eof_laws.specs.live_model.file_table.Files.{Files}
+use Rattle.eof_laws.specs.live_model.list_laws.Members.{In}
+use Rattle.eof_laws.specs.live_model.commute_laws.posix_types.declared.item.Item.{Item}
+use Rattle.eof_laws.specs.live_model.posix_spec.Run.{run}
+use Rattle.eof_laws.specs.live_model.posix_spec.State.{State}
+use Rattle.eof_laws.specs.live_model.posix_laws.Cuts.{cut_of}
+use Rattle.eof_laws.specs.live_model.world_model.Jobs.{Job}
+use Rattle.eof_laws.specs.live_model.world_model.Lines.{AreLinesOut}
+use Rattle.eof_laws.specs.live_model.world_model.Stands.{IsUsed, number}
+use Rattle.eof_laws.specs.live_model.world_step_laws.Worlds.{IsWorld}
 use Rattle.posix_mode_laws.specs.Batch.{IsBatch}
 use Rattle.posix_mode_laws.specs.Sides.{IsFresh, KeepsCutBytes, Sides, sized, UsesNoFreed}
 use Rattle.batch_laws.specs.Standing.{as_claims, staged_of}

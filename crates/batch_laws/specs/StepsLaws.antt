@@ -1,26 +1,26 @@
 -- What two Worlds and its blocks make of a batch.
 use Rattle.std.specs.Prelude.{◌≡◌, ◌⊎◌, ◌<◌, ◌+◌, ◌++◌, ℕ, true, List, [], ◌∷◌, length, Option, None, Some, slice_index}
 use Rattle.std.proofs.Common.{ap, ◌∙◌, sym, subst, inl, inr}
-use Rattle.live_model.specs.layout_model.declared.lines.Kind.TheVariants.{File}
-use Rattle.live_model.specs.pm_model.Words.{line_bytes, Words}
-use Rattle.live_model.specs.image_model.Placed.{block_at}
-use Rattle.live_model.specs.image_model.Volume.{chain, extents, inode, Volume}
-use Rattle.live_model.specs.file_table.Files.{Files}
-use Rattle.live_model.specs.layout_model.declared.lines.Draft.{Draft}
-use Rattle.live_model.specs.list_laws.Members.{In}
-use Rattle.live_model.specs.posix_spec.Run.{run}
-use Rattle.live_model.specs.posix_spec.State.{State}
-use Rattle.live_model.specs.posix_laws.Cuts.{cut_of}
-use Rattle.live_model.specs.posix_tables.declared.nodes.Node.{Node}
-use Rattle.live_model.specs.posix_tables.Nodes.{bytes_of, node_at}
-use Rattle.live_model.specs.image_model.Content.{disk_of, size_of}
-use Rattle.live_model.specs.layout_model.Places.{log_line}
-use Rattle.live_model.specs.layout_model.Entries.{encode_entry, held_seq, is_self_valid}
-use Rattle.live_model.specs.pm_model.declared.Cell.{Cell}
-use Rattle.live_model.specs.world_model.Lines.{AreJobLines, HoldsWords, IsClaimedLine, IsPutOver, Spells}
-use Rattle.live_model.specs.world_model.Jobs.{Job, live_claims}
-use Rattle.live_model.specs.world_model.Stands.{is_used, IsUsed, NodeStands, number, Stands}
-use Rattle.live_model.specs.world_step_laws.Worlds.{IsWorld}
+use Rattle.eof_laws.specs.live_model.layout_model.declared.lines.Kind.TheVariants.{File}
+use Rattle.eof_laws.specs.live_model.pm_model.Words.{line_bytes, Words}
+use Rattle.eof_laws.specs.live_model.image_model.Placed.{block_at}
+use Rattle.eof_laws.specs.live_model.image_model.Volume.{chain, extents, inode, Volume}
+use Rattle.eof_laws.specs.live_model.file_table.Files.{Files}
+use Rattle.eof_laws.specs.live_model.layout_model.declared.lines.Draft.{Draft}
+use Rattle.eof_laws.specs.live_model.list_laws.Members.{In}
+use Rattle.eof_laws.specs.live_model.posix_spec.Run.{run}
+use Rattle.eof_laws.specs.live_model.posix_spec.State.{State}
+use Rattle.eof_laws.specs.live_model.posix_laws.Cuts.{cut_of}
+use Rattle.eof_laws.specs.live_model.posix_tables.declared.nodes.Node.{Node}
+use Rattle.eof_laws.specs.live_model.posix_tables.Nodes.{bytes_of, node_at}
+use Rattle.eof_laws.specs.live_model.image_model.Content.{disk_of, size_of}
+use Rattle.eof_laws.specs.live_model.layout_model.Places.{log_line}
+use Rattle.eof_laws.specs.live_model.layout_model.Entries.{encode_entry, held_seq, is_self_valid}
+use Rattle.eof_laws.specs.live_model.pm_model.declared.Cell.{Cell}
+use Rattle.eof_laws.specs.live_model.world_model.Lines.{AreJobLines, HoldsWords, IsClaimedLine, IsPutOver, Spells}
+use Rattle.eof_laws.specs.live_model.world_model.Jobs.{Job, live_claims}
+use Rattle.eof_laws.specs.live_model.world_model.Stands.{is_used, IsUsed, NodeStands, number, Stands}
+use Rattle.eof_laws.specs.live_model.world_step_laws.Worlds.{IsWorld}
 use Rattle.posix_mode_laws.specs.CutStands.{cut_is_one}
 use Rattle.posix_mode_laws.specs.Sides.{IsFresh, IsSettled, sized}
 use Rattle.posix_mode_laws.specs.Sized.{kind-sized}

@@ -1,19 +1,19 @@
 -- The two Worlds in which the batch is seen, and the runs that are staged, each law as one statement.
 use Rattle.std.specs.Prelude.{◌≡◌, ℕ, List, []}
-use Rattle.live_model.specs.pm_model.Images.{IsImage}
-use Rattle.live_model.specs.pm_model.Words.{Words}
-use Rattle.live_model.specs.layout_model.Journal.{journaled}
-use Rattle.live_model.specs.layout_model.Places.{Geometry}
-use Rattle.live_model.specs.file_table.Files.{Files}
-use Rattle.live_model.specs.k_split_model.View.{View}
-use Rattle.live_model.specs.commute_laws.posix_types.declared.item.Item.{Item}
-use Rattle.live_model.specs.posix_spec.Run.{run}
-use Rattle.live_model.specs.posix_spec.State.{State}
-use Rattle.live_model.specs.posix_laws.Cuts.{cut_of}
-use Rattle.live_model.specs.world_model.Jobs.{live_claims}
-use Rattle.live_model.specs.world_step_laws.Worlds.{IsWorld}
-use Rattle.live_model.specs.Flying.{AreOverlays}
-use Rattle.live_model.specs.Standing.{file_state}
+use Rattle.eof_laws.specs.live_model.pm_model.Images.{IsImage}
+use Rattle.eof_laws.specs.live_model.pm_model.Words.{Words}
+use Rattle.eof_laws.specs.live_model.layout_model.Journal.{journaled}
+use Rattle.eof_laws.specs.live_model.layout_model.Places.{Geometry}
+use Rattle.eof_laws.specs.live_model.file_table.Files.{Files}
+use Rattle.eof_laws.specs.live_model.k_split_model.View.{View}
+use Rattle.eof_laws.specs.live_model.commute_laws.posix_types.declared.item.Item.{Item}
+use Rattle.eof_laws.specs.live_model.posix_spec.Run.{run}
+use Rattle.eof_laws.specs.live_model.posix_spec.State.{State}
+use Rattle.eof_laws.specs.live_model.posix_laws.Cuts.{cut_of}
+use Rattle.eof_laws.specs.live_model.world_model.Jobs.{live_claims}
+use Rattle.eof_laws.specs.live_model.world_step_laws.Worlds.{IsWorld}
+use Rattle.eof_laws.specs.live_model.Flying.{AreOverlays}
+use Rattle.eof_laws.specs.live_model.Standing.{file_state}
 use Rattle.posix_mode_laws.specs.Sides.{sized}
 use Rattle.batch_laws.specs.Standing.{as_claims, PosixGoing, staged_of}
 

@@ -5,24 +5,24 @@ use Rattle.std.proofs.Common.{arith, ap, ◌∙◌, sym, subst, inl, inr}
 use Rattle.std.proofs.lemmas.Bool.{cases_eq, cases_lt, eq-eqb, ne_eqb}
 use Rattle.std.proofs.lemmas.List.{get_or_past}
 use Rattle.std.proofs.lemmas.List.Elements.{filter-append}
-use Rattle.live_model.specs.layout_model.Journal.{journaled}
-use Rattle.live_model.specs.layout_model.Places.{IsGeometry}
-use Rattle.live_model.specs.layout_model.declared.lines.Draft.{Draft}
-use Rattle.live_model.specs.layout_model.declared.lines.Inode.{Inode}
-use Rattle.live_model.specs.layout_model.declared.lines.Kind.TheVariants.{File, Free}
-use Rattle.live_model.specs.image_model.Content.{size_by, size_of}
-use Rattle.live_model.specs.image_model.Live.{is_live, latest}
-use Rattle.live_model.specs.image_model.Volume.{free_inode, inode, Volume}
-use Rattle.live_model.specs.file_overlay.declared.runs.Run.{Run}
-use Rattle.live_model.specs.file_table.Files.{Files, runs_in, size_in}
-use Rattle.live_model.specs.list_laws.Members.{In}
-use Rattle.live_model.specs.posix_spec.Run.{run}
-use Rattle.live_model.specs.posix_laws.Cuts.{cut_of}
-use Rattle.live_model.specs.crash_spec.Posix.{LastBeforeCut}
-use Rattle.live_model.specs.world_model.Jobs.{live_claims}
-use Rattle.live_model.specs.world_model.Latest.{latest-In}
-use Rattle.live_model.specs.world_model.Stands.{entries_of, Stands}
-use Rattle.live_model.specs.Overlays.{run_of}
+use Rattle.eof_laws.specs.live_model.layout_model.Journal.{journaled}
+use Rattle.eof_laws.specs.live_model.layout_model.Places.{IsGeometry}
+use Rattle.eof_laws.specs.live_model.layout_model.declared.lines.Draft.{Draft}
+use Rattle.eof_laws.specs.live_model.layout_model.declared.lines.Inode.{Inode}
+use Rattle.eof_laws.specs.live_model.layout_model.declared.lines.Kind.TheVariants.{File, Free}
+use Rattle.eof_laws.specs.live_model.image_model.Content.{size_by, size_of}
+use Rattle.eof_laws.specs.live_model.image_model.Live.{is_live, latest}
+use Rattle.eof_laws.specs.live_model.image_model.Volume.{free_inode, inode, Volume}
+use Rattle.eof_laws.specs.live_model.file_overlay.declared.runs.Run.{Run}
+use Rattle.eof_laws.specs.live_model.file_table.Files.{Files, runs_in, size_in}
+use Rattle.eof_laws.specs.live_model.list_laws.Members.{In}
+use Rattle.eof_laws.specs.live_model.posix_spec.Run.{run}
+use Rattle.eof_laws.specs.live_model.posix_laws.Cuts.{cut_of}
+use Rattle.eof_laws.specs.live_model.crash_spec.Posix.{LastBeforeCut}
+use Rattle.eof_laws.specs.live_model.world_model.Jobs.{live_claims}
+use Rattle.eof_laws.specs.live_model.world_model.Latest.{latest-In}
+use Rattle.eof_laws.specs.live_model.world_model.Stands.{entries_of, Stands}
+use Rattle.eof_laws.specs.live_model.Overlays.{run_of}
 use Rattle.posix_mode_laws.specs.ClaimsLaws.{generation_sized, live_sized}
 use Rattle.posix_mode_laws.specs.CutStands.{cut_is_one, cut_left, left_fits}
 use Rattle.posix_mode_laws.specs.Sides.{BatchStands, PosixWorld, Same, sized, with_sizes}

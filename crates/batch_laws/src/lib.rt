@@ -21,6 +21,7 @@
 //! Stands on `posix_mode_laws`, `live_model`, `k_split_laws` and, for what one rule of a mode permits another, `crash_spec`.
 #![tactic(auto)]
 
+ghost use Rattle.batch_laws.specs.Backs.{LossKeepsBack, LossKeepsStrongBack, PosixKeepsBack, ReadyKeepsBack, ReadyKeepsStrongBack};
 ghost use Rattle.batch_laws.specs.Beginnings.{ReadyBegins};
 ghost use Rattle.batch_laws.specs.Calls.{CloseDropGoesOn, CreationGoesOn, MkdirGoesOn, RenameDropGoesOn, RenameGoesOn, RmdirGoesOn, UnlinkDropGoesOn, UnlinkGoesOn};
 ghost use Rattle.batch_laws.specs.Changes.{ChangeGoesOn};
@@ -142,6 +143,18 @@ pub fn a_call_loses_its_power()
 {
     modes_imply_modes();
     the_device_keeps_the_promise();
+}
+
+/// With its log lines out the device keeps the promise once they are put back, the stronger one too: between two calls,
+/// and where the power goes in a call that gathers.
+pub fn the_promise_is_kept_with_the_lines_out()
+    ensures between { ReadyKeepsBack }
+    ensures strongly { ReadyKeepsStrongBack }
+    ensures together { PosixKeepsBack }
+    ensures lost { LossKeepsBack }
+    ensures lost_strongly { LossKeepsStrongBack }
+{
+    modes_imply_modes();
 }
 
 /// What the standing says of the lengths of a file.

@@ -23,4 +23,5 @@ pub use Rattle.log_checkpoint.specs.k_plans.posix_types
 pub use Rattle.log_checkpoint.specs.k_plans.posix_tables
 pub use Rattle.log_checkpoint.specs.k_plans.volume_laws
 pub use Rattle.log_checkpoint.specs.world_model
+pub use Rattle.live_model.specs as live_model
 pub use Rattle.live_model.specs.write_jobs as write_jobs

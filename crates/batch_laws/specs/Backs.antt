@@ -1,44 +1,25 @@
 -- What a crash finds of the device while its log lines are out, each law as one statement.
 use Rattle.std.specs.Prelude.{ℕ, Bool, List, [], Option}
-use Rattle.eof_laws.specs.live_model.pm_model.declared.Cell.{Cell}
 use Rattle.eof_laws.specs.live_model.pm_model.Words.{Words}
 use Rattle.eof_laws.specs.live_model.layout_model.Places.{Geometry}
-use Rattle.eof_laws.specs.live_model.image_model.Content.{content}
-use Rattle.eof_laws.specs.live_model.image_model.Volume.{Volume}
 use Rattle.eof_laws.specs.live_model.file_table.Files.{Files}
 use Rattle.eof_laws.specs.live_model.k_split_model.View.{View}
 use Rattle.eof_laws.specs.live_model.commute_laws.posix_types.declared.item.Item.{Item}
-use Rattle.eof_laws.specs.live_model.commute_laws.posix_types.declared.tree.TreeEntry.{TreeEntry}
 use Rattle.eof_laws.specs.live_model.posix_tables.Open.{Tables}
 use Rattle.eof_laws.specs.live_model.posix_spec.Run.{Unfinished}
 use Rattle.eof_laws.specs.live_model.posix_spec.State.{State}
-use Rattle.eof_laws.specs.live_model.crash_spec.Posix.{StrongPosix}
-use Rattle.eof_laws.specs.live_model.world_model.Shown.{IsTreeOfContent}
-use Rattle.eof_laws.specs.live_model.world_image_laws.Back.{IsKeptBack, IsPutBack}
+use Rattle.eof_laws.specs.live_model.world_image_laws.Back.{IsKeptBack}
 use Rattle.eof_laws.specs.live_model.Standing.{Kept}
 use Rattle.batch_laws.specs.Losses.{IsLostIn}
 use Rattle.batch_laws.specs.Ready.{GoesReady}
 use Rattle.batch_laws.specs.Together.{PosixStandsAt}
 
--- THE STRONGER PROMISE ONCE THE LOG LINES ARE PUT BACK, with no entry in them: each tree of each such image is one that the stronger
--- relation permits.
-abbrev pub IsStrongBack : Volume → List Cell → Words → State → List Item → List Unfinished → Type 0
-IsStrongBack v d first start history unfinished =
-    (back : ℕ → Cell) (slots : List (Option ℕ)) (image : Words) → IsPutBack v d back first [] [] slots image → (left : List TreeEntry) → IsTreeOfContent (content v.geometry image) left
-    → StrongPosix start history unfinished left
-
 -- BETWEEN TWO CALLS the device keeps the promise once its log lines are put back with the words that they had when the lap began, whatever is
--- unfinished,
+-- unfinished.
 abbrev pub ReadyKeepsBack : Type 0
 ReadyKeepsBack =
     (g : Geometry) (k : View) (files : Files) (count : ℕ) (numbers : List ℕ) (start : State) (history : List Item) (first : Words) (unfinished : List Unfinished)
     → GoesReady g k files count numbers start history → IsKeptBack k.volume k.cells first [] [] start history unfinished
-
--- and the stronger one.
-abbrev pub ReadyKeepsStrongBack : Type 0
-ReadyKeepsStrongBack =
-    (g : Geometry) (k : View) (files : Files) (count : ℕ) (numbers : List ℕ) (start : State) (history : List Item) (first : Words) (unfinished : List Unfinished)
-    → GoesReady g k files count numbers start history → IsStrongBack k.volume k.cells first start history unfinished
 
 -- So does the device where all stands together, by the words that are kept of its lines.
 abbrev pub PosixKeepsBack : Type 0
@@ -47,14 +28,8 @@ PosixKeepsBack =
     → PosixStandsAt g k t kept lines_out n start history → IsKeptBack k.volume k.cells kept.first [] [] start history unfinished
 
 -- THE POWER WENT IN A CALL THAT GATHERS, with the log lines out: the device keeps the promise once they are put back, this call unfinished
--- and whatever others,
+-- and whatever others.
 abbrev pub LossKeepsBack : Type 0
 LossKeepsBack =
     (g : Geometry) (k l : View) (files : Files) (count : ℕ) (numbers : List ℕ) (start : State) (history : List Item) (first : Words) (unfinished : List Unfinished)
     → GoesReady g k files count numbers start history → IsLostIn k l → IsKeptBack k.volume l.cells first [] [] start history unfinished
-
--- and the stronger one.
-abbrev pub LossKeepsStrongBack : Type 0
-LossKeepsStrongBack =
-    (g : Geometry) (k l : View) (files : Files) (count : ℕ) (numbers : List ℕ) (start : State) (history : List Item) (first : Words) (unfinished : List Unfinished)
-    → GoesReady g k files count numbers start history → IsLostIn k l → IsStrongBack k.volume l.cells first start history unfinished

@@ -6,28 +6,23 @@ use Rattle.eof_laws.specs.live_model.pm_model.Images.{IsImage}
 use Rattle.eof_laws.specs.live_model.pm_model.Words.{Words}
 use Rattle.eof_laws.specs.live_model.layout_model.Journal.{journaled}
 use Rattle.eof_laws.specs.live_model.layout_model.Places.{base_word, data_blocks, Geometry, IsGeometry}
-use Rattle.eof_laws.specs.live_model.image_model.Content.{content}
 use Rattle.eof_laws.specs.live_model.image_model.Volume.{Volume}
 use Rattle.eof_laws.specs.live_model.file_table.Files.{Files}
 use Rattle.eof_laws.specs.live_model.k_split.Answers.{Changes}
 use Rattle.eof_laws.specs.live_model.k_split_model.View.{View}
 use Rattle.eof_laws.specs.live_model.commute_laws.posix_types.declared.item.Item.{Item}
-use Rattle.eof_laws.specs.live_model.commute_laws.posix_types.declared.tree.TreeEntry.{TreeEntry}
 use Rattle.eof_laws.specs.live_model.posix_spec.Run.{Unfinished}
 use Rattle.eof_laws.specs.live_model.posix_spec.State.{State}
-use Rattle.eof_laws.specs.live_model.crash_spec.Laws.{StrongIsPosix}
-use Rattle.eof_laws.specs.live_model.crash_spec.Posix.{LastBeforeCut, StrongPosix}
-use Rattle.eof_laws.specs.live_model.world_model.Jobs.{Job}
-use Rattle.eof_laws.specs.live_model.world_model.Shown.{IsTreeOfContent, landed_pairs}
+use Rattle.eof_laws.specs.live_model.crash_spec.Posix.{LastBeforeCut}
 use Rattle.eof_laws.specs.live_model.world_image_laws.Back.{calls_in_log, IsKeptBack, IsPutBack, jobs_in_log}
 use Rattle.eof_laws.specs.live_model.world_image_laws.Changed.{ShowsLog-same}
 use Rattle.eof_laws.specs.live_model.world_image_laws.Flights.{image_of, shows_back}
 use Rattle.eof_laws.specs.live_model.world_image_laws.Images.{IsHeaded, ShowsLog, ShowsWorld}
 use Rattle.eof_laws.specs.live_model.world_image_laws.Promised.{IsKept}
 use Rattle.posix_mode_laws.specs.Sides.{PosixWorld, Sides}
-use Rattle.batch_laws.specs.Backs.{IsStrongBack, LossKeepsBack, LossKeepsStrongBack, PosixKeepsBack, ReadyKeepsBack, ReadyKeepsStrongBack}
-use Rattle.batch_laws.specs.CommitsLaws.{cut_kept, cut_strongly, headed, kept, shows_medium, strongly}
-use Rattle.batch_laws.specs.Losses.{IsBegun, IsLostIn}
+use Rattle.batch_laws.specs.Backs.{LossKeepsBack, PosixKeepsBack, ReadyKeepsBack}
+use Rattle.batch_laws.specs.CommitsLaws.{cut_kept, headed, kept, shows_medium}
+use Rattle.batch_laws.specs.Losses.{IsBegun}
 use Rattle.batch_laws.specs.LossesLaws.{begin_goes_on}
 use Rattle.batch_laws.specs.Ready.{GoesReady}
 use Rattle.batch_laws.specs.Standing.{PosixGoing, sides_of}
@@ -80,40 +75,28 @@ module _ (g : Geometry) (k : View) (files : Files) (count : ℕ) (numbers : List
         (going.blocks ∙ ap data_blocks (sym medium)) (subst IsGeometry (sym medium) going.is_geometry) going.free (subst (λ x. IsHeaded x image) (sym medium) (going.headed image is))
         (going.order.stands.reads image is) (λ b i in_data below lent. refl) seen
 
-    image_kept : (unfinished : List Unfinished) → StrongIsPosix → IsKept g start history unfinished image
-    image_kept unfinished weaker =
+    image_kept : (unfinished : List Unfinished) → IsKept g start history unfinished image
+    image_kept unfinished =
         subst (λ h. IsKept g start h unfinished image) (sym going.history_is)
         (subst (λ x. IsKept x start (going.front ++ going.later) unfinished image) medium
-        (kept sides (journaled image) start going.front going.later world image unfinished shows weaker going.mode))
-
-    image_strongly : (unfinished : List Unfinished) (left : List TreeEntry) → IsTreeOfContent (content g image) left → StrongPosix start history unfinished left
-    image_strongly unfinished left tree_is =
-        subst (λ h. StrongPosix start h unfinished left) (sym going.history_is)
-        (strongly sides (journaled image) start going.front going.later world image unfinished shows left
-        (subst (λ x. IsTreeOfContent (content x image) left) (sym medium) tree_is))
+        (kept sides (journaled image) start going.front going.later world image unfinished shows going.mode))
 
   base_of : (image : Words) → IsImage k.cells image → k.volume.base ≡ journaled image base_word
   base_of image is = ready.base ∙ (going.order.stands.reads image is).base
 
 -- ---- between two calls
 
-pub ready_keeps_back : StrongIsPosix → ReadyKeepsBack
-ready_keeps_back weaker g k files count numbers start history first unfinished ready back slots image put =
+pub ready_keeps_back : ReadyKeepsBack
+ready_keeps_back g k files count numbers start history first unfinished ready back slots image put =
     let is = image_of k.cells back image put.image_is in
     let seen = shows_no_entry g k files count numbers start history ready k.cells back first slots image (ready.going.headed image is) (base_of g k files count numbers start history ready image is) put in
     subst (λ cs. IsKept k.volume.geometry start history cs image) (sym (no_calls slots unfinished))
     (subst (λ x. IsKept x start history unfinished image) (sym ready.going.geometry)
-    (image_kept g k files count numbers start history ready image is seen unfinished weaker))
+    (image_kept g k files count numbers start history ready image is seen unfinished))
 
-pub ready_keeps_strong_back : ReadyKeepsStrongBack
-ready_keeps_strong_back g k files count numbers start history first unfinished ready back slots image put left tree_is =
-    let is = image_of k.cells back image put.image_is in
-    let seen = shows_no_entry g k files count numbers start history ready k.cells back first slots image (ready.going.headed image is) (base_of g k files count numbers start history ready image is) put in
-    image_strongly g k files count numbers start history ready image is seen unfinished left (subst (λ x. IsTreeOfContent (content x image) left) ready.going.geometry tree_is)
-
-pub posix_keeps_back : StrongIsPosix → PosixKeepsBack
-posix_keeps_back weaker g k t kept lines_out n start history unfinished stands =
-    ready_keeps_back weaker g k kept.files stands.count stands.numbers start history kept.first unfinished stands.ready
+pub posix_keeps_back : PosixKeepsBack
+posix_keeps_back g k t kept lines_out n start history unfinished stands =
+    ready_keeps_back g k kept.files stands.count stands.numbers start history kept.first unfinished stands.ready
 
 -- ---- within a call
 
@@ -132,40 +115,22 @@ same : {k mid : View} → IsBegun k mid → mid.volume ≡ k.volume
 same (inl is) = ap (λ (m : View). m.volume) is
 same (inr committed) = committed.volume
 
-cut_keeps_back : StrongIsPosix → (g : Geometry) (k l : View) (files : Files) (count : ℕ) (numbers : List ℕ) (start : State) (history : List Item) (first : Words) (unfinished : List Unfinished)
+cut_keeps_back : (g : Geometry) (k l : View) (files : Files) (count : ℕ) (numbers : List ℕ) (start : State) (history : List Item) (first : Words) (unfinished : List Unfinished)
     → GoesReady g k files count numbers start history → Changes k.committed k.volume k.cells l.cells → IsKeptBack k.volume l.cells first [] [] start history unfinished
-cut_keeps_back weaker g k l files count numbers start history first unfinished ready changes back slots image put =
+cut_keeps_back g k l files count numbers start history first unfinished ready changes back slots image put =
     let is = image_of l.cells back image put.image_is in
     let from = changes.each_image image is in
     let head = headed g k files count numbers start history ready from.0 image from.1.is_image from.2 in
     let seen = shows_no_entry g k files count numbers start history ready l.cells back first slots image head (cut_base g k files count numbers start history ready l.cells image is changes) put in
     subst (λ cs. IsKept k.volume.geometry start history cs image) (sym (no_calls slots unfinished))
     (subst (λ x. IsKept x start history unfinished image) (sym ready.going.geometry)
-    (cut_kept g k files count numbers start history ready from.0 image from.1.is_image from.2 seen unfinished weaker))
+    (cut_kept g k files count numbers start history ready from.0 image from.1.is_image from.2 seen unfinished))
 
-pub loss_keeps_back : StrongIsPosix → LossKeepsBack
-loss_keeps_back weaker g k l files count numbers start history first unfinished ready (inl changes) = cut_keeps_back weaker g k l files count numbers start history first unfinished ready changes
-loss_keeps_back weaker g k l files count numbers start history first unfinished ready (inr begun) =
+pub loss_keeps_back : LossKeepsBack
+loss_keeps_back g k l files count numbers start history first unfinished ready (inl changes) = cut_keeps_back g k l files count numbers start history first unfinished ready changes
+loss_keeps_back g k l files count numbers start history first unfinished ready (inr begun) =
     let mid = begun.0 in
     let behind = begin_goes_on g k mid files count numbers start history ready begun.1 in
     subst (λ (v : Volume). IsKeptBack v l.cells first [] [] start history unfinished) (same begun.1)
     (subst (λ (d : List Cell). IsKeptBack mid.volume d first [] [] start history unfinished) (sym begun.2)
-    (ready_keeps_back weaker g mid files count numbers start history first unfinished behind))
-
-cut_keeps_strong_back : (g : Geometry) (k l : View) (files : Files) (count : ℕ) (numbers : List ℕ) (start : State) (history : List Item) (first : Words) (unfinished : List Unfinished)
-    → GoesReady g k files count numbers start history → Changes k.committed k.volume k.cells l.cells → IsStrongBack k.volume l.cells first start history unfinished
-cut_keeps_strong_back g k l files count numbers start history first unfinished ready changes back slots image put left tree_is =
-    let is = image_of l.cells back image put.image_is in
-    let from = changes.each_image image is in
-    let head = headed g k files count numbers start history ready from.0 image from.1.is_image from.2 in
-    let seen = shows_no_entry g k files count numbers start history ready l.cells back first slots image head (cut_base g k files count numbers start history ready l.cells image is changes) put in
-    cut_strongly g k files count numbers start history ready from.0 image from.1.is_image from.2 seen unfinished left (subst (λ x. IsTreeOfContent (content x image) left) ready.going.geometry tree_is)
-
-pub loss_keeps_strong_back : LossKeepsStrongBack
-loss_keeps_strong_back g k l files count numbers start history first unfinished ready (inl changes) = cut_keeps_strong_back g k l files count numbers start history first unfinished ready changes
-loss_keeps_strong_back g k l files count numbers start history first unfinished ready (inr begun) =
-    let mid = begun.0 in
-    let behind = begin_goes_on g k mid files count numbers start history ready begun.1 in
-    subst (λ (v : Volume). IsStrongBack v l.cells first start history unfinished) (same begun.1)
-    (subst (λ (d : List Cell). IsStrongBack mid.volume d first start history unfinished) (sym begun.2)
-    (ready_keeps_strong_back g mid files count numbers start history first unfinished behind))
+    (ready_keeps_back g mid files count numbers start history first unfinished behind))

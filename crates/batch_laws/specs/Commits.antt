@@ -11,7 +11,6 @@ use Rattle.eof_laws.specs.live_model.posix_spec.Run.{Unfinished}
 use Rattle.eof_laws.specs.live_model.posix_spec.State.{State}
 use Rattle.eof_laws.specs.live_model.world_image_laws.Images.{HasLogHome}
 use Rattle.eof_laws.specs.live_model.world_image_laws.Promised.{KeepsPromise}
-use Rattle.posix_mode_laws.specs.Device.{KeepsStrongly}
 use Rattle.batch_laws.specs.Ready.{GoesReady}
 
 -- K-Split committed its batch: its volume stays and is the committed one; each image of the device reads as the one that was committed
@@ -43,16 +42,9 @@ CommitKeepsLog =
     → GoesReady g k files count numbers start history → IsCommitted k l → HasLogHome k.committed k.cells [] → HasLogHome l.committed l.cells []
 
 -- THE POWER WENT IN THE COMMIT, with the log lines at home: each image is the old medium or the new one, so that the device keeps the
--- promise, whatever is unfinished,
+-- promise, whatever is unfinished.
 abbrev pub CommitKeepsPromise : Type 0
 CommitKeepsPromise =
     (g : Geometry) (k l : View) (files : Files) (count : ℕ) (numbers : List ℕ) (start : State) (history : List Item) (unfinished : List Unfinished)
     → GoesReady g k files count numbers start history → HasLogHome k.committed k.cells [] → Changes k.committed k.volume k.cells l.cells
     → KeepsPromise g l.cells start history unfinished
-
--- and the stronger one.
-abbrev pub CommitKeepsStrongly : Type 0
-CommitKeepsStrongly =
-    (g : Geometry) (k l : View) (files : Files) (count : ℕ) (numbers : List ℕ) (start : State) (history : List Item) (unfinished : List Unfinished)
-    → GoesReady g k files count numbers start history → HasLogHome k.committed k.cells [] → Changes k.committed k.volume k.cells l.cells
-    → KeepsStrongly g l.cells start history unfinished

@@ -5,7 +5,6 @@ use Rattle.eof_laws.specs.live_model.pm_model.Images.{IsImage}
 use Rattle.eof_laws.specs.live_model.pm_model.Words.{Words}
 use Rattle.eof_laws.specs.live_model.layout_model.Journal.{IsSound, journaled}
 use Rattle.eof_laws.specs.live_model.layout_model.Places.{data_blocks, Geometry, is_data_block, IsGeometry, reserve}
-use Rattle.eof_laws.specs.live_model.image_model.Content.{content}
 use Rattle.eof_laws.specs.live_model.image_model.Reading.{Reads}
 use Rattle.eof_laws.specs.live_model.image_model.Room.{unused_blocks}
 use Rattle.eof_laws.specs.live_model.image_model.Volume.{Volume}
@@ -15,16 +14,13 @@ use Rattle.eof_laws.specs.live_model.k_split_model.Stands.{IsOldOrNew}
 use Rattle.eof_laws.specs.live_model.k_split_model.View.{View}
 use Rattle.eof_laws.specs.live_model.commute_laws.posix_types.declared.call.Mode.{Mode}
 use Rattle.eof_laws.specs.live_model.commute_laws.posix_types.declared.item.Item.{Item}
-use Rattle.eof_laws.specs.live_model.commute_laws.posix_types.declared.tree.TreeEntry.{TreeEntry}
 use Rattle.eof_laws.specs.live_model.posix_spec.Run.{begun, run, Unfinished}
 use Rattle.eof_laws.specs.live_model.posix_spec.State.{Fits, State}
 use Rattle.eof_laws.specs.live_model.posix_laws.Lasting.{run_lasts}
-use Rattle.eof_laws.specs.live_model.crash_spec.Permitted.{Permitted}
-use Rattle.eof_laws.specs.live_model.crash_spec.Posix.{LastBeforeCut, StrongPosix}
-use Rattle.eof_laws.specs.live_model.crash_spec.Laws.{StrongIsPosix}
-use Rattle.eof_laws.specs.live_model.volume_laws.FootprintLaws.{content-own}
+use Rattle.eof_laws.specs.live_model.crash_spec.Permitted.{StronglyPermitted}
+use Rattle.eof_laws.specs.live_model.crash_spec.Posix.{LastBeforeCut}
 use Rattle.eof_laws.specs.live_model.world_model.Rules.{HasFreeBlocks}
-use Rattle.eof_laws.specs.live_model.world_model.Shown.{IsTreeOfContent, SameButLent}
+use Rattle.eof_laws.specs.live_model.world_model.Shown.{SameButLent}
 use Rattle.eof_laws.specs.live_model.world_model.Stands.{Stands}
 use Rattle.eof_laws.specs.live_model.world_step_laws.Counts.{HasShape}
 use Rattle.eof_laws.specs.live_model.world_image_laws.Changed.{headed_changed, IsWorld-words, same_data, SameLog-changed, ShowsLog-same, sound_headed}
@@ -36,7 +32,7 @@ use Rattle.posix_mode_laws.specs.Sides.{AreLengths, PosixWorld, Sides, sized}
 use Rattle.posix_mode_laws.specs.Steps.{batch_commits, permitted_left}
 use Rattle.batch_laws.specs.Standing.{as_claims, PosixGoing, sides_of, staged_of}
 use Rattle.batch_laws.specs.WorldsLaws.{cut_is_world, live_is_world}
-use Rattle.batch_laws.specs.Commits.{CommitGoesOn, CommitKeepsLog, CommitKeepsPromise, CommitKeepsStrongly, GoesCommitted, IsCommitted}
+use Rattle.batch_laws.specs.Commits.{CommitGoesOn, CommitKeepsLog, CommitKeepsPromise, GoesCommitted, IsCommitted}
 use Rattle.batch_laws.specs.Ready.{GoesReady}
 
 -- the sides once the batch is committed
@@ -190,20 +186,13 @@ module _ (w : Sides) (f : Words) (start : State) (front later : List Item) (worl
   }
 
   module _ (unfinished : List Unfinished) (shown : ShowsWorld w.committed [] [] w.committed_numbers world.medium.state 0 image) where
-    -- its trees are permitted,
-    pub strongly : (left : List TreeEntry) → IsTreeOfContent (content w.committed.geometry image) left → StrongPosix start (front ++ later) unfinished left
-    strongly left tree_is =
-        permitted_left LastBeforeCut w f start front later unfinished left world
-        (one_tree w.committed [] w.committed_numbers world.medium.state 0 image left shown
-        (subst (λ c. IsTreeOfContent c left) (content-own w.committed.geometry w.committed (journaled image) shown.reads) tree_is))
-
-    -- and it is kept.
-    pub kept : StrongIsPosix → start.mode ≡ Mode.Posix → IsKept w.committed.geometry start (front ++ later) unfinished image
-    kept weaker mode =
+    -- it is kept
+    pub kept : start.mode ≡ Mode.Posix → IsKept w.committed.geometry start (front ++ later) unfinished image
+    kept mode =
         kept_by w.committed [] [] w.committed_numbers world.medium.state 0 image start (front ++ later) unfinished shown
-        (λ left tree_is. subst (λ m. Permitted m start (front ++ later) unfinished left) (sym mode)
-        (weaker start (front ++ later) unfinished left (permitted_left LastBeforeCut w f start front later unfinished left world
-        (one_tree w.committed [] w.committed_numbers world.medium.state 0 image left shown tree_is))))
+        (λ left tree_is. subst (λ m. StronglyPermitted m start (front ++ later) unfinished left) (sym mode)
+        (permitted_left LastBeforeCut w f start front later unfinished left world
+        (one_tree w.committed [] w.committed_numbers world.medium.state 0 image left shown tree_is)))
 
 -- ---- the commit is cut off
 
@@ -247,38 +236,20 @@ module _ (g : Geometry) (k : View) (files : Files) (count : ℕ) (numbers : List
         (subst (λ x. IsHeaded x image) (sym standing.geometry) head) (subst (λ x. Reads x (journaled image) k.volume) (sym ready.geometry) new) (λ b i in_data below lent. refl)
         (ShowsLog-same k.committed k.volume [] (journaled image) (journaled image) ready.geometry ready.base (record { words = λ slot i below at. refl }) seen))
 
-  pub cut_kept : (unfinished : List Unfinished) → StrongIsPosix → IsKept g start history unfinished image
-  cut_kept unfinished weaker = elim shows [
+  pub cut_kept : (unfinished : List Unfinished) → IsKept g start history unfinished image
+  cut_kept unfinished = elim shows [
     | inl old ↦
         subst (λ h. IsKept g start h unfinished image) (sym standing.history_is)
         (subst (λ x. IsKept x start (standing.front ++ standing.later) unfinished image) medium_is
-        (kept old_sides (journaled before) start standing.front standing.later old_world image unfinished old weaker standing.mode))
+        (kept old_sides (journaled before) start standing.front standing.later old_world image unfinished old standing.mode))
     | inr new ↦
         subst (λ h. IsKept g start h unfinished image) (append-nil history)
         (subst (λ x. IsKept x start (history ++ []) unfinished image) standing.geometry
-        (kept (at_rest k.volume files numbers) (journaled image) start history [] new_world image unfinished new weaker standing.mode))
+        (kept (at_rest k.volume files numbers) (journaled image) start history [] new_world image unfinished new standing.mode))
   ]
 
-  pub cut_strongly : (unfinished : List Unfinished) (left : List TreeEntry) → IsTreeOfContent (content g image) left → StrongPosix start history unfinished left
-  cut_strongly unfinished left tree_is = elim shows [
-    | inl old ↦
-        subst (λ h. StrongPosix start h unfinished left) (sym standing.history_is)
-        (strongly old_sides (journaled before) start standing.front standing.later old_world image unfinished old left
-        (subst (λ x. IsTreeOfContent (content x image) left) (sym medium_is) tree_is))
-    | inr new ↦
-        subst (λ h. StrongPosix start h unfinished left) (append-nil history)
-        (strongly (at_rest k.volume files numbers) (journaled image) start history [] new_world image unfinished new left
-        (subst (λ x. IsTreeOfContent (content x image) left) (sym standing.geometry) tree_is))
-  ]
-
-pub commit_keeps_promise : StrongIsPosix → CommitKeepsPromise
-commit_keeps_promise weaker g k l files count numbers start history unfinished ready home changes image is honest =
+pub commit_keeps_promise : CommitKeepsPromise
+commit_keeps_promise g k l files count numbers start history unfinished ready home changes image is honest =
     let from = changes.each_image image is in
     cut_kept g k files count numbers start history ready from.0 image from.1.is_image from.2
-    (log g k files count numbers start history ready from.0 image from.1.is_image from.2 k.committed refl refl (home from.0 from.1.is_image)) unfinished weaker
-
-pub commit_keeps_strongly : CommitKeepsStrongly
-commit_keeps_strongly g k l files count numbers start history unfinished ready home changes image is honest left tree_is =
-    let from = changes.each_image image is in
-    cut_strongly g k files count numbers start history ready from.0 image from.1.is_image from.2
-    (log g k files count numbers start history ready from.0 image from.1.is_image from.2 k.committed refl refl (home from.0 from.1.is_image)) unfinished left tree_is
+    (log g k files count numbers start history ready from.0 image from.1.is_image from.2 k.committed refl refl (home from.0 from.1.is_image)) unfinished

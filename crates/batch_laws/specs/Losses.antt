@@ -10,7 +10,6 @@ use Rattle.eof_laws.specs.live_model.posix_spec.Run.{Unfinished}
 use Rattle.eof_laws.specs.live_model.posix_spec.State.{State}
 use Rattle.eof_laws.specs.live_model.world_image_laws.Images.{HasLogHome}
 use Rattle.eof_laws.specs.live_model.world_image_laws.Promised.{KeepsPromise}
-use Rattle.posix_mode_laws.specs.Device.{KeepsStrongly}
 use Rattle.batch_laws.specs.Changes.{IsGathered}
 use Rattle.batch_laws.specs.Commits.{IsCommitted}
 use Rattle.batch_laws.specs.Ready.{GoesReady}
@@ -42,14 +41,8 @@ ChangeKeepsLog = (k l : View) (w : Volume) → IsGathered k l w → HasLogHome k
 abbrev pub IsLostIn : View → View → Type 0
 IsLostIn k l = Changes k.committed k.volume k.cells l.cells ⊎ ((mid : View) × IsBegun k mid × (l.cells ≡ mid.cells))
 
--- With the log lines at home the device keeps the promise, this call unfinished and whatever others,
+-- With the log lines at home the device keeps the promise, this call unfinished and whatever others.
 abbrev pub LossKeepsPromise : Type 0
 LossKeepsPromise =
     (g : Geometry) (k l : View) (files : Files) (count : ℕ) (numbers : List ℕ) (start : State) (history : List Item) (unfinished : List Unfinished)
     → GoesReady g k files count numbers start history → HasLogHome k.committed k.cells [] → IsLostIn k l → KeepsPromise g l.cells start history unfinished
-
--- and the stronger one.
-abbrev pub LossKeepsStrongly : Type 0
-LossKeepsStrongly =
-    (g : Geometry) (k l : View) (files : Files) (count : ℕ) (numbers : List ℕ) (start : State) (history : List Item) (unfinished : List Unfinished)
-    → GoesReady g k files count numbers start history → HasLogHome k.committed k.cells [] → IsLostIn k l → KeepsStrongly g l.cells start history unfinished

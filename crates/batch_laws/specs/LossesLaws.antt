@@ -8,13 +8,12 @@ use Rattle.eof_laws.specs.live_model.file_table.Files.{Files}
 use Rattle.eof_laws.specs.live_model.k_split_model.View.{View}
 use Rattle.eof_laws.specs.live_model.commute_laws.posix_types.declared.item.Item.{Item}
 use Rattle.eof_laws.specs.live_model.posix_spec.State.{State}
-use Rattle.eof_laws.specs.live_model.crash_spec.Laws.{StrongIsPosix}
 use Rattle.eof_laws.specs.live_model.world_image_laws.Images.{HasLogHome}
 use Rattle.eof_laws.specs.live_model.world_image_laws.Promised.{KeepsPromise}
-use Rattle.posix_mode_laws.specs.Device.{KeepsStrongly}
-use Rattle.batch_laws.specs.Promise.{GoingIsPromised, GoingIsPromisedStrongly, IsAtHome}
-use Rattle.batch_laws.specs.CommitsLaws.{commit_goes_on, commit_keeps_log, commit_keeps_promise, commit_keeps_strongly}
-use Rattle.batch_laws.specs.Losses.{BeginGoesOn, BeginKeepsLog, ChangeKeepsLog, LossKeepsPromise, LossKeepsStrongly}
+use Rattle.batch_laws.specs.Promise.{IsAtHome}
+use Rattle.batch_laws.specs.PromiseLaws.{going_is_promised}
+use Rattle.batch_laws.specs.CommitsLaws.{commit_goes_on, commit_keeps_log, commit_keeps_promise}
+use Rattle.batch_laws.specs.Losses.{BeginGoesOn, BeginKeepsLog, ChangeKeepsLog, LossKeepsPromise}
 use Rattle.batch_laws.specs.Ready.{GoesReady}
 
 pub begin_goes_on : BeginGoesOn
@@ -33,20 +32,11 @@ change_keeps_log k l w gathered home =
 at_home : (g : Geometry) (k : View) (files : Files) (count : ℕ) (numbers : List ℕ) (start : State) (history : List Item) → GoesReady g k files count numbers start history → HasLogHome k.committed k.cells [] → IsAtHome k files
 at_home g k files count numbers start history ready home = record { geometry = ready.geometry; base = ready.base; log = home; room = ready.room }
 
-pub loss_keeps_promise : StrongIsPosix → GoingIsPromised → LossKeepsPromise
-loss_keeps_promise weaker promised g k l files count numbers start history unfinished ready home (inl cut) = commit_keeps_promise weaker g k l files count numbers start history unfinished ready home cut
-loss_keeps_promise weaker promised g k l files count numbers start history unfinished ready home (inr begun) =
+pub loss_keeps_promise : LossKeepsPromise
+loss_keeps_promise g k l files count numbers start history unfinished ready home (inl cut) = commit_keeps_promise g k l files count numbers start history unfinished ready home cut
+loss_keeps_promise g k l files count numbers start history unfinished ready home (inr begun) =
     let mid = begun.0 in
     let behind = begin_goes_on g k mid files count numbers start history ready begun.1 in
     let log = begin_keeps_log g k mid files count numbers start history ready begun.1 home in
     subst (λ (d : List Cell). KeepsPromise g d start history unfinished) (sym begun.2)
-    (promised g mid files count numbers start history unfinished behind.going (at_home g mid files count numbers start history behind log))
-
-pub loss_keeps_strongly : GoingIsPromisedStrongly → LossKeepsStrongly
-loss_keeps_strongly promised g k l files count numbers start history unfinished ready home (inl cut) = commit_keeps_strongly g k l files count numbers start history unfinished ready home cut
-loss_keeps_strongly promised g k l files count numbers start history unfinished ready home (inr begun) =
-    let mid = begun.0 in
-    let behind = begin_goes_on g k mid files count numbers start history ready begun.1 in
-    let log = begin_keeps_log g k mid files count numbers start history ready begun.1 home in
-    subst (λ (d : List Cell). KeepsStrongly g d start history unfinished) (sym begun.2)
-    (promised g mid files count numbers start history unfinished behind.going (at_home g mid files count numbers start history behind log))
+    (going_is_promised g mid files count numbers start history unfinished behind.going (at_home g mid files count numbers start history behind log))

@@ -10,7 +10,7 @@ use Rattle.eof_laws.specs.live_model.posix_spec.State.{State}
 use Rattle.eof_laws.specs.live_model.crash_spec.Posix.{LastBeforeCut}
 use Rattle.eof_laws.specs.live_model.world_image_laws.Images.{HasLogHome}
 use Rattle.eof_laws.specs.live_model.world_image_laws.Promised.{KeepsPromise}
-use Rattle.posix_mode_laws.specs.Device.{KeepsStrongly, PosixRuns}
+use Rattle.posix_mode_laws.specs.Device.{PosixRuns}
 use Rattle.batch_laws.specs.Standing.{PosixGoing, sides_of, staged_of}
 
 -- The batch is of the geometry and of the lap of the medium, whose log shows no entry; and once it is committed its free blocks are
@@ -28,14 +28,8 @@ GoingRuns =
     → (going : PosixGoing g k files count numbers start history) → IsAtHome k files
     → PosixRuns LastBeforeCut (sides_of k files going.old_numbers numbers) k.cells start going.front going.later
 
--- so it keeps the promise, whatever is unfinished,
+-- so it keeps the promise, whatever is unfinished.
 abbrev pub GoingIsPromised : Type 0
 GoingIsPromised =
     (g : Geometry) (k : View) (files : Files) (count : ℕ) (numbers : List ℕ) (start : State) (history : List Item) (unfinished : List Unfinished)
     → PosixGoing g k files count numbers start history → IsAtHome k files → KeepsPromise g k.cells start history unfinished
-
--- and the stronger one.
-abbrev pub GoingIsPromisedStrongly : Type 0
-GoingIsPromisedStrongly =
-    (g : Geometry) (k : View) (files : Files) (count : ℕ) (numbers : List ℕ) (start : State) (history : List Item) (unfinished : List Unfinished)
-    → PosixGoing g k files count numbers start history → IsAtHome k files → KeepsStrongly g k.cells start history unfinished

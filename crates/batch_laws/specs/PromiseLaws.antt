@@ -5,24 +5,21 @@ use Rattle.eof_laws.specs.live_model.pm_model.Images.{IsImage}
 use Rattle.eof_laws.specs.live_model.pm_model.Words.{Words}
 use Rattle.eof_laws.specs.live_model.layout_model.Journal.{journaled}
 use Rattle.eof_laws.specs.live_model.layout_model.Places.{data_blocks, Geometry, IsGeometry}
-use Rattle.eof_laws.specs.live_model.image_model.Content.{content}
 use Rattle.eof_laws.specs.live_model.file_table.Files.{Files}
 use Rattle.eof_laws.specs.live_model.k_split_model.View.{View}
 use Rattle.eof_laws.specs.live_model.commute_laws.posix_types.declared.item.Item.{Item}
 use Rattle.eof_laws.specs.live_model.posix_spec.Run.{begun, run}
 use Rattle.eof_laws.specs.live_model.posix_spec.State.{State}
 use Rattle.eof_laws.specs.live_model.posix_laws.Lasting.{run_lasts}
-use Rattle.eof_laws.specs.live_model.crash_spec.Posix.{LastBeforeCut, StrongPosix}
-use Rattle.eof_laws.specs.live_model.world_model.Shown.{IsTreeOfContent}
+use Rattle.eof_laws.specs.live_model.crash_spec.Posix.{LastBeforeCut}
 use Rattle.eof_laws.specs.live_model.world_image_laws.Images.{IsHeaded}
 use Rattle.eof_laws.specs.live_model.world_image_laws.Promised.{KeepsPromise}
 use Rattle.posix_mode_laws.specs.Beginning.{no_entry}
 use Rattle.posix_mode_laws.specs.CutStands.{left_fits}
 use Rattle.posix_mode_laws.specs.Device.{ShowsPosixWorld}
-use Rattle.posix_mode_laws.specs.Laws.{StrongRunsPromised}
-use Rattle.posix_mode_laws.specs.Promises.{posix_runs_strongly}
+use Rattle.posix_mode_laws.specs.Promises.{posix_runs_promised}
 use Rattle.posix_mode_laws.specs.Sides.{MediumStands}
-use Rattle.batch_laws.specs.Promise.{GoingIsPromised, GoingIsPromisedStrongly, GoingRuns, IsAtHome}
+use Rattle.batch_laws.specs.Promise.{GoingIsPromised, GoingRuns, IsAtHome}
 use Rattle.batch_laws.specs.Standing.{PosixGoing, sides_of}
 
 -- the medium's geometry is that of the device
@@ -65,15 +62,8 @@ going_runs g k files count numbers start history going home = record {
   images = shows g k files count numbers start history going home;
 }
 
-pub going_is_promised : StrongRunsPromised → GoingIsPromised
-going_is_promised promised g k files count numbers start history unfinished going home =
-    let kept = promised (sides_of k files going.old_numbers numbers) k.cells start going.front going.later unfinished (going_runs g k files count numbers start history going home) in
+pub going_is_promised : GoingIsPromised
+going_is_promised g k files count numbers start history unfinished going home =
+    let kept = posix_runs_promised (sides_of k files going.old_numbers numbers) k.cells start going.front going.later unfinished (going_runs g k files count numbers start history going home) in
     subst (λ h. KeepsPromise g k.cells start h unfinished) (sym going.history_is)
     (subst (λ x. KeepsPromise x k.cells start (going.front ++ going.later) unfinished) (medium_geometry g k files count numbers start history going home) kept)
-
-pub going_is_promised_strongly : GoingIsPromisedStrongly
-going_is_promised_strongly g k files count numbers start history unfinished going home image is honest left tree_is =
-    let runs = going_runs g k files count numbers start history going home in
-    subst (λ h. StrongPosix start h unfinished left) (sym going.history_is)
-    (posix_runs_strongly (sides_of k files going.old_numbers numbers) k.cells start going.front going.later unfinished image left runs is
-    (subst (λ x. IsTreeOfContent (content x image) left) (sym (medium_geometry g k files count numbers start history going home)) tree_is))

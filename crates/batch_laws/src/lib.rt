@@ -6,8 +6,7 @@
 //! layer above may rely on this: of whatever image, the batch with lengths and runs is a World without a job
 //! (`LiveIsWorld`), so is the batch alone (`CutIsWorld`), and what is kept of files is what the staged runs say
 //! (`StagedIsOverlay`); two such Worlds make a batch again (`WorldsMakeBatch`, `BlocksStay`), behind which the device goes
-//! on (`GoingGoesOn`); and with its log lines at home it keeps the promise, the stronger one too (`GoingIsPromised`,
-//! `GoingIsPromisedStrongly`).
+//! on (`GoingGoesOn`); and with its log lines at home it keeps the promise (`GoingIsPromised`).
 //!
 //! It begins so where the World runs with nothing gathered (`Beginnings`); behind a commit between two calls it goes on with
 //! all of the history kept, and where the power went in the commit it keeps the promise (`Commits`); behind a change of
@@ -18,25 +17,22 @@
 //! of the state (`Spaces`). Where a call takes two changes, no commit is between them: who calls makes room for both
 //! before. What publishes lengths, writes and cuts is not here.
 //!
-//! Stands on `posix_mode_laws`, `live_model`, `k_split_laws` and, for what one rule of a mode permits another, `crash_spec`.
+//! Stands on `posix_mode_laws`, `live_model`, `k_split_laws`.
 #![tactic(auto)]
 
-ghost use Rattle.batch_laws.specs.Backs.{LossKeepsBack, LossKeepsStrongBack, PosixKeepsBack, ReadyKeepsBack, ReadyKeepsStrongBack};
+ghost use Rattle.batch_laws.specs.Backs.{LossKeepsBack, PosixKeepsBack, ReadyKeepsBack};
 ghost use Rattle.batch_laws.specs.Beginnings.{ReadyBegins};
 ghost use Rattle.batch_laws.specs.Calls.{CloseDropGoesOn, CreationGoesOn, MkdirGoesOn, RenameDropGoesOn, RenameGoesOn, RmdirGoesOn, UnlinkDropGoesOn, UnlinkGoesOn};
 ghost use Rattle.batch_laws.specs.Changes.{ChangeGoesOn};
-ghost use Rattle.batch_laws.specs.Commits.{CommitGoesOn, CommitKeepsLog, CommitKeepsPromise, CommitKeepsStrongly};
+ghost use Rattle.batch_laws.specs.Commits.{CommitGoesOn, CommitKeepsLog, CommitKeepsPromise};
 ghost use Rattle.batch_laws.specs.Goings.{GoingGoesOn};
 ghost use Rattle.batch_laws.specs.Idle.{CloseGoesOn, LengthsAreKept, LookGoesOn, OpenGoesOn, RefusalGoesOn, StillGoesOn};
-ghost use Rattle.batch_laws.specs.Losses.{BeginGoesOn, BeginKeepsLog, ChangeKeepsLog, LossKeepsPromise, LossKeepsStrongly};
-ghost use Rattle.batch_laws.specs.Promise.{GoingIsPromised, GoingIsPromisedStrongly, GoingRuns};
+ghost use Rattle.batch_laws.specs.Losses.{BeginGoesOn, BeginKeepsLog, ChangeKeepsLog, LossKeepsPromise};
+ghost use Rattle.batch_laws.specs.Promise.{GoingIsPromised, GoingRuns};
 ghost use Rattle.batch_laws.specs.Quiet.{QuietPutsNone, RefusedPutsNone};
 ghost use Rattle.batch_laws.specs.Spaces.{PathsLeadAlike, RowsAreAlike};
 ghost use Rattle.batch_laws.specs.Steps.{BlocksStay, LinesOfOne, WorldsMakeBatch};
 ghost use Rattle.batch_laws.specs.Worlds.{CutIsWorld, LiveIsWorld, StagedIsOverlay};
-
-use crash_spec::modes_imply_modes;
-use posix_mode_laws::posix_mode_keeps_its_promise;
 
 /// The batch is seen in two Worlds, whose entries are the staged runs.
 pub fn the_batch_is_seen()
@@ -45,14 +41,11 @@ pub fn the_batch_is_seen()
     ensures overlays { StagedIsOverlay }
 {}
 
-/// A device that stands so, with its log lines at home, runs in POSIX mode and keeps the promise, the stronger one too.
+/// A device that stands so, with its log lines at home, runs in POSIX mode and keeps the promise.
 pub fn the_device_keeps_the_promise()
     ensures runs { GoingRuns }
     ensures promised { GoingIsPromised }
-    ensures strongly { GoingIsPromisedStrongly }
-{
-    posix_mode_keeps_its_promise();
-}
+{}
 
 /// Two Worlds make a batch; one that takes fresh blocks uses none that it freed; and log lines are those of both volumes.
 pub fn steps_of_the_batch()
@@ -77,13 +70,10 @@ pub fn a_commit_goes_on()
     ensures log { CommitKeepsLog }
 {}
 
-/// A commit between two calls that the power cut off: the promise is kept, the stronger one too.
+/// A commit between two calls that the power cut off: the promise is kept.
 pub fn a_commit_is_cut_off()
-    ensures promised { CommitKeepsPromise }
-    ensures strongly { CommitKeepsStrongly }
-{
-    modes_imply_modes();
-}
+    ensures { CommitKeepsPromise }
+{}
 
 /// A change of names that gathers: the device goes on behind it.
 pub fn a_change_of_names_goes_on()
@@ -136,26 +126,18 @@ pub fn a_call_begins()
     ensures gathered { ChangeKeepsLog }
 {}
 
-/// The power goes in a call that gathers: the promise is kept, the stronger one too.
+/// The power goes in a call that gathers: the promise is kept.
 pub fn a_call_loses_its_power()
-    ensures promised { LossKeepsPromise }
-    ensures strongly { LossKeepsStrongly }
-{
-    modes_imply_modes();
-    the_device_keeps_the_promise();
-}
+    ensures { LossKeepsPromise }
+{}
 
-/// With its log lines out the device keeps the promise once they are put back, the stronger one too: between two calls,
-/// and where the power goes in a call that gathers.
+/// With its log lines out the device keeps the promise once they are put back: between two calls, and where the power
+/// goes in a call that gathers.
 pub fn the_promise_is_kept_with_the_lines_out()
     ensures between { ReadyKeepsBack }
-    ensures strongly { ReadyKeepsStrongBack }
     ensures together { PosixKeepsBack }
     ensures lost { LossKeepsBack }
-    ensures lost_strongly { LossKeepsStrongBack }
-{
-    modes_imply_modes();
-}
+{}
 
 /// What the standing says of the lengths of a file.
 pub fn lengths_are_kept()

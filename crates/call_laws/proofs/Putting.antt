@@ -140,7 +140,7 @@ module _ (k : View) (t : Tables) (staging : Staged) (files : Files) (w : WorldVi
         in_place = λ mode. unput_in_place w who call (disk_of k t staging files) (refused_unput (state_of w) who h at x outcome (answer found_at));
         stay = others_returned k t staging files w one.world one.begins.awake one.out who call one.begins.next one.up one.none one.begins.idle k t files refl going.ends later;
         on = on;
-        spent = inl (ap tree (sym same_state));
+        spent = λ mode. inl (ap tree (sym same_state));
       }
 
     -- ---- what it lacks
@@ -334,7 +334,7 @@ module _ (k : View) (t : Tables) (staging : Staged) (files : Files) (w : WorldVi
           stay = subst (λ (s : Staged). OthersStay w (written_view s) who) (sym writes.staging)
               (others_returned k t staging files w one.world one.begins.awake one.out who call one.begins.next one.up one.none one.begins.idle l moved laid keeps.base ends_now stands_then);
           on = on;
-          spent = inr took;
+          spent = λ mode. inr took;
         }
 
       -- ---- the round is over

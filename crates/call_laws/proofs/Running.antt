@@ -140,7 +140,7 @@ module _ (k : View) (t : Tables) (staging : Staged) (files : Files) (w : WorldVi
       in_place = λ mode. unput_in_place w who call return_view.disk unput;
       stay = others_returned k t staging files w one.world one.begins.awake one.out who call one.begins.next one.up one.none one.begins.idle l u laid base ends stands;
       on = on;
-      spent = spent;
+      spent = λ mode. spent;
     }
 
   -- with this outcome

@@ -58,7 +58,9 @@ module _ (k : View) (t : Tables) (staging : Staged) (files : Files) (w : WorldVi
       (stands : StandsAt w.geometry l t (kept_of w staged laid) true (length w.history) (state_of w)) where
     going_still : (over : Option Over) (acts : ℕ) → (over ≡ None → staged.out ≡ [] → staged ≡ nothing_staged) → IsGoing l t staged laid (record w { over = over; acts = acts; disk = disk_of l t staged laid })
     going_still over acts bare = record {
-      stands = subst (λ b. StandsAt w.geometry l t (kept_of w staged laid) b (length w.history) (state_of w)) (sym one.out) stands;
+      stands = λ mode. subst (λ b. StandsAt w.geometry l t (kept_of w staged laid) b (length w.history) (state_of w)) (sym one.out) stands;
+      gathers = λ posix. absurd (one.world.mode posix);
+      waits = λ posix. absurd (one.world.mode posix);
       counted = λ mode. runs ∙ going_now.counted mode;
       runs = λ settled. runs ∙ going_now.runs settled;
       bare = bare;

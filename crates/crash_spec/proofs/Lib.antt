@@ -7,4 +7,3 @@ pub mod ByteRows
 pub mod MachineLaws
 pub mod OneThread
 pub mod Synced
-pub mod PosixLaws

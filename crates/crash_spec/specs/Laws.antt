@@ -16,15 +16,15 @@ use Rattle.posix_laws.specs.posix_spec.Unfinished.{AreUnfinished}
 use Rattle.crash_spec.specs.Busy.{is_busy}
 use Rattle.crash_spec.specs.Machine.{Begins, Checkpoint, Goes, Machine, outs, Setting, state_of}
 use Rattle.crash_spec.specs.Orders.{Order}
-use Rattle.crash_spec.specs.Permitted.{Permitted}
-use Rattle.crash_spec.specs.Posix.{Posix, StrongPosix, syncs}
+use Rattle.crash_spec.specs.Permitted.{Permitted, StronglyPermitted}
+use Rattle.crash_spec.specs.Posix.{Posix, syncs}
 use Rattle.crash_spec.specs.Schedules.{Course, Reaches, Scheduled}
 use Rattle.crash_spec.specs.Strict.{Strict}
 use Rattle.crash_spec.specs.Sync.{IsPartOf, Sync}
 
--- the tree of the history is permitted in each mode, whatever is unfinished
+-- the tree of the history is permitted in each mode, whatever is unfinished, by the stronger rule for bytes too
 abbrev pub HistoryIsPermitted : Type 0
-HistoryIsPermitted = (mode : Mode) (s : State) (history : List Item) (unfinished : List Unfinished) → Permitted mode s history unfinished (tree (run s history))
+HistoryIsPermitted = (mode : Mode) (s : State) (history : List Item) (unfinished : List Unfinished) → StronglyPermitted mode s history unfinished (tree (run s history))
 
 -- in strict and in sync mode, the tree after the one unfinished call, too
 abbrev pub OneMoreIsStrict : Type 0
@@ -52,8 +52,9 @@ abbrev pub NoneIsPart : Type 0
 NoneIsPart = (old whole : List ℕ) → length whole ≡ length old → IsPartOf old whole old
 
 -- by the stronger rule for bytes no more is permitted
-abbrev pub StrongIsPosix : Type 0
-StrongIsPosix = (s : State) (history : List Item) (unfinished : List Unfinished) (left : List TreeEntry) → StrongPosix s history unfinished left → Posix s history unfinished left
+abbrev pub StrongIsPermitted : Type 0
+StrongIsPermitted =
+    (mode : Mode) (s : State) (history : List Item) (unfinished : List Unfinished) (left : List TreeEntry) → StronglyPermitted mode s history unfinished left → Permitted mode s history unfinished left
 
 -- a file is published whole
 abbrev pub IsPublished : Node → Type 0

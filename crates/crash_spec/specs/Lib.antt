@@ -1,4 +1,5 @@
 pub mod RelationLaws
+pub mod StrongLaws
 pub mod Laws
 pub mod ScheduleLaws
 pub mod ScheduleRows

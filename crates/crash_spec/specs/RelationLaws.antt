@@ -8,7 +8,7 @@ use Rattle.posix_laws.specs.posix_types.declared.tree.TreeEntry.{TreeEntry}
 use Rattle.posix_laws.specs.posix_spec.Run.{after_call, Unfinished, run}
 use Rattle.posix_laws.specs.posix_spec.State.{State}
 use Rattle.posix_laws.specs.posix_spec.Tree.{tree}
-use Rattle.crash_spec.specs.Permitted.{Permitted}
+use Rattle.crash_spec.specs.Permitted.{StronglyPermitted}
 use Rattle.crash_spec.specs.Strict.{Strict, StrictFrom, Strict-none, Strict-one}
 use Rattle.crash_spec.specs.Sync.{IsPartOf, Sync, SyncFrom}
 
@@ -24,10 +24,10 @@ pub Sync-Strict : (s : State) (history : List Item) (unfinished : List Unfinishe
 Sync-Strict s history unfinished left h = SyncFrom-StrictFrom (run s history) unfinished left h
 
 -- the tree of the history is permitted in each mode
-pub Permitted-none : (mode : Mode) (s : State) (history : List Item) (unfinished : List Unfinished) → Permitted mode s history unfinished (tree (run s history))
-Permitted-none Mode.Strict s history unfinished = Strict-none s history unfinished
-Permitted-none Mode.Sync s history unfinished = Sync-Strict s history unfinished (tree (run s history)) (Strict-none s history unfinished)
-Permitted-none Mode.Posix s history unfinished = inr (inr refl)
+pub StronglyPermitted-none : (mode : Mode) (s : State) (history : List Item) (unfinished : List Unfinished) → StronglyPermitted mode s history unfinished (tree (run s history))
+StronglyPermitted-none Mode.Strict s history unfinished = Strict-none s history unfinished
+StronglyPermitted-none Mode.Sync s history unfinished = Sync-Strict s history unfinished (tree (run s history)) (Strict-none s history unfinished)
+StronglyPermitted-none Mode.Posix s history unfinished = inr (inr refl)
 
 -- in strict and sync mode the tree after the one unfinished call, too
 pub Sync-one : (s : State) (history : List Item) (c : Unfinished) → Sync s history (c ∷ []) (tree (after_call (run s history) c))

@@ -1,10 +1,11 @@
 //! What a power loss may leave, as definitions to be read aloud.
 //!
 //! Which trees each mode permits for a history and the calls that were unfinished (`Strict`, `Sync`,
-//! `Posix`; together `Permitted`), by the values that writes put at each byte (`Values`). Which calls
-//! are logged, and which wait for one that is (`Busy`). The machine over events that knows nothing of
-//! the medium (`Machine`), the orders in which threads are picked (`Orders`), and which histories and
-//! unfinished calls they lead to (`Schedules`).
+//! `Posix`; together `Permitted`), by the values that writes put at each byte (`Values`), and which it
+//! permits by the stronger rule for bytes (`StronglyPermitted`). Which calls are logged, and which wait
+//! for one that is (`Busy`). The machine over events that knows nothing of the medium (`Machine`), the
+//! orders in which threads are picked (`Orders`), and which histories and unfinished calls they lead
+//! to (`Schedules`).
 //!
 //! The laws of these are clauses of the functions here (`Laws`, and for schedules `ScheduleLaws`: they
 //! have no choice but where space is wanting), and so are rows worked by hand (`ScheduleRows`,
@@ -15,12 +16,12 @@
 
 ghost use Rattle.crash_spec.specs.BusyRows.{WhatIsLogged, WhoWaits};
 ghost use Rattle.crash_spec.specs.ByteRows.{ByteRows};
-ghost use Rattle.crash_spec.specs.Laws.{BusyCallsWait, CheckpointsFindNoJob, ClaimsFit, HistoryIsPermitted, NoneIsPart, OneMoreIsStrict, OneMoreIsSync, OneThreadInOrder, SchedulesFollow, StaysLegal, StrictIsOneTree, StrictIsSync, StrongIsPosix, SyncedIsOneTree, SyncIsOneTree, WholeIsPart};
+ghost use Rattle.crash_spec.specs.Laws.{BusyCallsWait, CheckpointsFindNoJob, ClaimsFit, HistoryIsPermitted, NoneIsPart, OneMoreIsStrict, OneMoreIsSync, OneThreadInOrder, SchedulesFollow, StaysLegal, StrictIsOneTree, StrictIsSync, StrongIsPermitted, SyncedIsOneTree, SyncIsOneTree, WholeIsPart};
 ghost use Rattle.crash_spec.specs.ScheduleLaws.{NoChoiceWithoutWrites, OneCourse, OneEventFollows, WantsAreFew};
 ghost use Rattle.crash_spec.specs.ScheduleRows.{WorkedSchedules};
 
-/// The tree of the history is permitted in each mode, and in strict and sync mode the tree after the
-/// one unfinished call. A legal history stays legal with one more item that is answered.
+/// The tree of the history is permitted in each mode, by the stronger rule for bytes too, and in strict
+/// and sync mode the tree after the one unfinished call. A legal history stays legal with one more item that is answered.
 pub fn what_returned_is_permitted()
     ensures history { HistoryIsPermitted }
     ensures strict { OneMoreIsStrict }
@@ -40,7 +41,7 @@ pub fn modes_imply_modes()
     ensures sync { StrictIsSync }
     ensures whole { WholeIsPart }
     ensures none { NoneIsPart }
-    ensures posix { StrongIsPosix }
+    ensures strongly { StrongIsPermitted }
 {}
 
 /// Every schedule follows the scripts, and one of a single thread that runs to its end has the calls

@@ -2,6 +2,7 @@ pub mod Runs
 pub mod Answers
 pub mod Built
 pub mod Reading
+pub use Rattle.batch_laws.specs as batch_laws
 pub use Rattle.live_step_laws.specs.data_route
 pub use Rattle.eof_laws.specs.image_model
 pub use Rattle.eof_laws.specs as eof_laws

@@ -5,7 +5,7 @@ use Rattle.log_checkpoint.specs.pm_model.declared.Cell.{Cell}
 use Rattle.log_checkpoint.specs.pm_model.Bytes.{line_bytes-same}
 use Rattle.log_checkpoint.specs.pm_model.Images.{Follows, IsImage}
 use Rattle.log_checkpoint.specs.pm_model.Words.{line_bytes, Words}
-use Rattle.log_checkpoint.specs.crash_spec.Permitted.{Permitted}
+use Rattle.log_checkpoint.specs.crash_spec.Permitted.{StronglyPermitted}
 use Rattle.log_checkpoint.specs.layout_model.Journal.{IsSound, journaled}
 use Rattle.log_checkpoint.specs.layout_model.PlaceLaws.{behind_log-not_journaled, behind_log-words}
 use Rattle.log_checkpoint.specs.layout_model.Places.{base_word, commit_word, Geometry, is_data_block, log_line, state_line}
@@ -195,7 +195,7 @@ module _ (v : Volume) (d e : List Cell) (claims : List (ℕ × Draft)) (numbers 
   pub old-next : (image : Words) → IsImage e image → HasOldLines (base_set base v) image
   old-next image is = let from = follows image is in old-lines from.0 image from.1.is_image from.2
 
-  pub promise-next : (start : State) (history : List Item) (unfinished : List Unfinished) → Permitted start.mode start history unfinished (tree s) → KeepsPromise v.geometry e start history unfinished
+  pub promise-next : (start : State) (history : List Item) (unfinished : List Unfinished) → StronglyPermitted start.mode start history unfinished (tree s) → KeepsPromise v.geometry e start history unfinished
   promise-next start history unfinished permitted image is honest =
       let from = follows image is in
       elim from.2.reads [

@@ -6,7 +6,7 @@ use Rattle.log_checkpoint.specs.pm_model.declared.Cell.{Cell}
 use Rattle.log_checkpoint.specs.pm_model.Frames.{KeepsSingle, SameLent}
 use Rattle.log_checkpoint.specs.pm_model.ImageLaws.{IsImage-words_of}
 use Rattle.log_checkpoint.specs.pm_model.Images.{words_of}
-use Rattle.log_checkpoint.specs.crash_spec.Permitted.{Permitted}
+use Rattle.log_checkpoint.specs.crash_spec.Permitted.{StronglyPermitted}
 use Rattle.log_checkpoint.specs.layout_model.declared.lines.Draft.{Draft}
 use Rattle.log_checkpoint.specs.layout_model.declared.lines.Inode.{Inode}
 use Rattle.log_checkpoint.specs.layout_model.declared.lines.Kind.TheVariants.{File, Staging}
@@ -128,7 +128,7 @@ module _ (x : ℕ) (m : View) (w : Volume) (blocks : List ℕ) (on : GoesOn m) (
     pub running-then : Stands w.geometry w e → IsRunning w e claims numbers s count
     running-then stands = runs_on m.volume w m.cells e claims numbers numbers s s count count running change stands room takes
 
-    pub promise-then : (start : State) (history : List Item) (unfinished : List Unfinished) → Permitted start.mode start history unfinished (tree s) → KeepsPromise m.volume.geometry e start history unfinished
+    pub promise-then : (start : State) (history : List Item) (unfinished : List Unfinished) → StronglyPermitted start.mode start history unfinished (tree s) → KeepsPromise m.volume.geometry e start history unfinished
     promise-then start history unfinished permitted = promise_in_change m.volume w m.cells e claims numbers numbers s s count count start history unfinished running change room takes permitted permitted
 
 -- ---- one after the other
@@ -191,7 +191,7 @@ module _ (k : View) (claims : List (ℕ × Draft)) (numbers : List ℕ) (s : Sta
 
   -- the power went in the next one
   pub cut-gone : (m l : View) (x : ℕ) → IsStaging x → HasGone k m claims numbers s count → (w : Volume) (blocks : List ℕ) → IsGivenUpWith x m w blocks → IsMapCut blocks w m l
-      → (start : State) (history : List Item) (unfinished : List Unfinished) → Permitted start.mode start history unfinished (tree s) → KeepsPromise k.volume.geometry l.cells start history unfinished
+      → (start : State) (history : List Item) (unfinished : List Unfinished) → StronglyPermitted start.mode start history unfinished (tree s) → KeepsPromise k.volume.geometry l.cells start history unfinished
   cut-gone m l x staging gone w blocks makes cut start history unfinished permitted =
       subst (λ g. KeepsPromise g l.cells start history unfinished) gone.geometry
       (promise-then x m w blocks gone.on staging cut.whole makes claims numbers s count gone.running gone.none l.cells cut.changes start history unfinished permitted)

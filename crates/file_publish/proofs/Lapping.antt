@@ -7,8 +7,8 @@ use Rattle.log_checkpoint.specs.pm_model.Cells.{cell, is_lent}
 use Rattle.log_checkpoint.specs.pm_model.ImageLaws.{IsImage-words_of}
 use Rattle.log_checkpoint.specs.pm_model.Images.{Follows, IsImage, words_of}
 use Rattle.log_checkpoint.specs.pm_model.Words.{Words}
-use Rattle.log_checkpoint.specs.crash_spec.Permitted.{Permitted}
-use Rattle.log_checkpoint.specs.crash_spec.RelationLaws.{Permitted-none}
+use Rattle.log_checkpoint.specs.crash_spec.Permitted.{StronglyPermitted}
+use Rattle.log_checkpoint.specs.crash_spec.RelationLaws.{StronglyPermitted-none}
 use Rattle.log_checkpoint.specs.layout_model.Places.{Geometry, log_line}
 use Rattle.log_checkpoint.specs.layout_model.declared.lines.Draft.{Draft}
 use Rattle.log_checkpoint.specs.layout_model.declared.lines.Inode.{Inode}
@@ -252,8 +252,8 @@ module _ (g : Geometry) (k l : View) (t : Tables) (kept : Kept) (n : ℕ) (start
   abbrev s : State
   s = run start history
 
-  permitted : Permitted start.mode start history unfinished (tree (run start history))
-  permitted = Permitted-none start.mode start history unfinished
+  permitted : StronglyPermitted start.mode start history unfinished (tree (run start history))
+  permitted = StronglyPermitted-none start.mode start history unfinished
 
   first : HasGone k k kept.claims stands.numbers (run start history) stands.count
   first = gone-first g k t kept n (run start history) stands no_runs

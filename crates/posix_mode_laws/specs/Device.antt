@@ -1,27 +1,21 @@
 -- POSIX mode on a device, between two calls.
 use Rattle.std.specs.Prelude.{◌≡◌, ◌≤◌, ◌<◌, ◌+◌, ℕ, List, [], length, map}
 use Rattle.world_image_laws.specs.pm_model.declared.Cell.{Cell}
-use Rattle.world_image_laws.specs.pm_model.Cells.{cell}
 use Rattle.world_image_laws.specs.pm_model.Images.{IsImage}
 use Rattle.world_image_laws.specs.pm_model.Words.{Words}
 use Rattle.world_image_laws.specs.layout_model.Journal.{journaled}
-use Rattle.world_image_laws.specs.layout_model.Places.{data_blocks, Geometry, IsGeometry, reserve}
+use Rattle.world_image_laws.specs.layout_model.Places.{data_blocks, IsGeometry, reserve}
 use Rattle.world_image_laws.specs.layout_model.declared.lines.Inode.{Inode}
-use Rattle.world_image_laws.specs.image_model.Content.{content}
-use Rattle.world_image_laws.specs.image_model.Honest.{IsHonest}
 use Rattle.world_image_laws.specs.image_model.Room.{unused_blocks}
 use Rattle.world_image_laws.specs.image_model.Rules.{IsOfNoLater}
 use Rattle.world_image_laws.specs.image_model.Volume.{Volume}
 use Rattle.world_image_laws.specs.k_split_model.Stands.{Stands}
 use Rattle.world_image_laws.specs.posix_types.declared.call.Mode.{Mode}
 use Rattle.world_image_laws.specs.posix_types.declared.item.Item.{Item}
-use Rattle.world_image_laws.specs.posix_types.declared.tree.TreeEntry.{TreeEntry}
 use Rattle.world_image_laws.specs.posix_tables.Nodes.{bytes_of, node_at, published_of}
-use Rattle.world_image_laws.specs.posix_spec.Run.{Unfinished}
 use Rattle.world_image_laws.specs.posix_spec.State.{Fits, State}
-use Rattle.world_image_laws.specs.crash_spec.Posix.{LaterRule, StrongPosix}
+use Rattle.world_image_laws.specs.crash_spec.Posix.{LaterRule}
 use Rattle.world_image_laws.specs.world_model.Rules.{HasFreeBlocks}
-use Rattle.world_image_laws.specs.world_model.Shown.{IsTreeOfContent}
 use Rattle.world_image_laws.specs.world_step_laws.Counts.{HasShape}
 use Rattle.world_image_laws.specs.Images.{HasNoEntry, IsHeaded}
 use Rattle.posix_mode_laws.specs.Sides.{PosixWorld, Sides}
@@ -48,12 +42,6 @@ pub record PosixRuns (rule : LaterRule) (w : Sides) (d : List Cell) (start : Sta
   pub free : HasFreeBlocks w.committed [] []
   pub room : length w.staged + reserve w.batch.geometry ≤ unused_blocks w.batch + 3
   pub images : (image : Words) → IsImage d image → ShowsPosixWorld rule w start kept later image
-
--- THE STRONGER PROMISE: each tree of each honest image of the device is one that the stronger relation permits.
-abbrev pub KeepsStrongly : Geometry → List Cell → State → List Item → List Unfinished → Type 0
-KeepsStrongly g d start history unfinished =
-    (image : Words) → IsImage d image → IsHonest g (cell d) image → (left : List TreeEntry) → IsTreeOfContent (content g image) left
-    → StrongPosix start history unfinished left
 
 -- ---- nothing gathered
 

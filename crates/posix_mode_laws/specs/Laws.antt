@@ -1,9 +1,8 @@
 -- The laws of POSIX mode that follow from the three standings, each as one statement; and that there are worlds of this kind.
 use Rattle.std.specs.Prelude.{◌≡◌, ℕ, List, [], ◌∷◌, ◌++◌}
 use Rattle.world_image_laws.specs.pm_model.declared.Cell.{Cell}
-use Rattle.world_image_laws.specs.pm_model.Images.{IsImage}
 use Rattle.world_image_laws.specs.pm_model.Words.{Words}
-use Rattle.world_image_laws.specs.image_model.Content.{content, found}
+use Rattle.world_image_laws.specs.image_model.Content.{found}
 use Rattle.world_image_laws.specs.image_model.Live.{live_entries}
 use Rattle.world_image_laws.specs.image_model.Uses.{IsUnused}
 use Rattle.world_image_laws.specs.image_model.Volume.{Volume}
@@ -47,25 +46,12 @@ PermitsTreeStrongly =
     → PosixWorld LastBeforeCut w f start kept later → live_entries w.committed f ≡ []
     → IsTreeOfContent (found w.committed (live_entries w.committed f) f) left → StrongPosix start (kept ++ later) unfinished left
 
--- THE PROMISE: each honest image of a device that runs in POSIX mode is checked, has this geometry and a tree, and each tree of it
--- is permitted.
+-- THE PROMISE: each honest image of a device that runs in POSIX mode, by the stronger rule for bytes, is checked, has this geometry and
+-- a tree, and each tree of it is permitted, by the stronger relation.
 abbrev pub PosixRunsPromised : Type 0
 PosixRunsPromised =
     (w : Sides) (d : List Cell) (start : State) (kept later : List Item) (unfinished : List Unfinished)
-    → PosixRuns Overwritten w d start kept later → KeepsPromise w.committed.geometry d start (kept ++ later) unfinished
-
--- With the stronger rule for bytes, which is the one that each step keeps, the device keeps this promise,
-abbrev pub StrongRunsPromised : Type 0
-StrongRunsPromised =
-    (w : Sides) (d : List Cell) (start : State) (kept later : List Item) (unfinished : List Unfinished)
     → PosixRuns LastBeforeCut w d start kept later → KeepsPromise w.committed.geometry d start (kept ++ later) unfinished
-
--- and each tree of each image is one that the stronger relation permits.
-abbrev pub PosixRunsStrongly : Type 0
-PosixRunsStrongly =
-    (w : Sides) (d : List Cell) (start : State) (kept later : List Item) (unfinished : List Unfinished) (image : Words) (left : List TreeEntry)
-    → PosixRuns LastBeforeCut w d start kept later → IsImage d image → IsTreeOfContent (content w.committed.geometry image) left
-    → StrongPosix start (kept ++ later) unfinished left
 
 -- ---- the beginning
 

@@ -5,22 +5,16 @@ use Rattle.world_image_laws.specs.pm_model.Words.{Words}
 use Rattle.world_image_laws.specs.layout_model.Journal.{journaled}
 use Rattle.world_image_laws.specs.layout_model.Places.{IsGeometry}
 use Rattle.world_image_laws.specs.image_model.Reading.{Reads}
-use Rattle.world_image_laws.specs.volume_laws.FootprintLaws.{content-own}
 use Rattle.world_image_laws.specs.posix_types.declared.item.Item.{Item}
 use Rattle.world_image_laws.specs.posix_spec.State.{State}
-use Rattle.world_image_laws.specs.crash_spec.Permitted.{Permitted}
-use Rattle.world_image_laws.specs.crash_spec.Posix.{LastBeforeCut, LaterRule, Overwritten, Posix, PosixBy}
-use Rattle.world_image_laws.specs.world_model.Shown.{IsTreeOfContent}
+use Rattle.world_image_laws.specs.crash_spec.Permitted.{StronglyPermitted}
+use Rattle.world_image_laws.specs.crash_spec.Posix.{LastBeforeCut, LaterRule}
 use Rattle.world_image_laws.specs.world_model.Rules.{HasFreeBlocks}
 use Rattle.world_image_laws.specs.world_step_laws.Worlds.{IsWorld}
 use Rattle.world_image_laws.specs.Images.{ShowsLog, ShowsWorld}
 use Rattle.world_image_laws.specs.Kept.{kept_by, one_tree}
-use Rattle.world_image_laws.specs.Promised.{KeepsPromise}
-use Rattle.world_image_laws.specs.pm_model.declared.Cell.{Cell}
-use Rattle.world_image_laws.specs.posix_types.declared.tree.TreeEntry.{TreeEntry}
-use Rattle.world_image_laws.specs.posix_spec.Run.{Unfinished}
-use Rattle.posix_mode_laws.specs.Device.{PosixRuns, ShowsPosixWorld}
-use Rattle.posix_mode_laws.specs.Laws.{PosixRunsPromised, PosixRunsStrongly}
+use Rattle.posix_mode_laws.specs.Device.{ShowsPosixWorld}
+use Rattle.posix_mode_laws.specs.Laws.{PosixRunsPromised}
 use Rattle.posix_mode_laws.specs.Sides.{Sides}
 use Rattle.posix_mode_laws.specs.Steps.{permitted_left}
 
@@ -53,25 +47,12 @@ medium_shown rule w start kept later image geometry free reads is = record {
   log = medium_log rule w start kept later image is;
 }
 
--- THE PROMISE, by a rule for bytes of which each tree is one of the relation
-pub promised_by : (rule : LaterRule) → ((s : State) (history : List Item) (unfinished : List Unfinished) (left : List TreeEntry) → PosixBy rule s history unfinished left → Posix s history unfinished left) → (w : Sides) (d : List Cell)
-    (start : State) (kept later : List Item) (unfinished : List Unfinished) → PosixRuns rule w d start kept later → KeepsPromise w.committed.geometry d start (kept ++ later) unfinished
-promised_by rule weaker w d start kept later unfinished runs image is honest =
-    let shows = runs.images image is in
-    let shown = medium_shown rule w start kept later image runs.geometry runs.free (runs.stands.reads image is) shows in
-    kept_by w.committed [] [] w.committed_numbers shows.world.medium.state 0 image start (kept ++ later) unfinished shown
-    (λ left tree_is. subst (λ m. Permitted m start (kept ++ later) unfinished left) (sym runs.mode)
-    (weaker start (kept ++ later) unfinished left (permitted_left rule w (journaled image) start kept later unfinished left shows.world
-    (one_tree w.committed [] w.committed_numbers shows.world.medium.state 0 image left shown tree_is))))
-
+-- THE PROMISE
 pub posix_runs_promised : PosixRunsPromised
-posix_runs_promised w d start kept later unfinished runs = promised_by Overwritten (λ s history open_calls left is. is) w d start kept later unfinished runs
-
-pub posix_runs_strongly : PosixRunsStrongly
-posix_runs_strongly w d start kept later unfinished image left runs is tree_is =
+posix_runs_promised w d start kept later unfinished runs image is honest =
     let shows = runs.images image is in
-    let reads = runs.stands.reads image is in
-    let shown = medium_shown LastBeforeCut w start kept later image runs.geometry runs.free reads shows in
-    permitted_left LastBeforeCut w (journaled image) start kept later unfinished left shows.world
-    (one_tree w.committed [] w.committed_numbers shows.world.medium.state 0 image left shown
-    (subst (λ c. IsTreeOfContent c left) (content-own w.committed.geometry w.committed (journaled image) reads) tree_is))
+    let shown = medium_shown LastBeforeCut w start kept later image runs.geometry runs.free (runs.stands.reads image is) shows in
+    kept_by w.committed [] [] w.committed_numbers shows.world.medium.state 0 image start (kept ++ later) unfinished shown
+    (λ left tree_is. subst (λ m. StronglyPermitted m start (kept ++ later) unfinished left) (sym runs.mode)
+    (permitted_left LastBeforeCut w (journaled image) start kept later unfinished left shows.world
+    (one_tree w.committed [] w.committed_numbers shows.world.medium.state 0 image left shown tree_is)))

@@ -16,7 +16,7 @@
 ghost use Rattle.posix_mode_laws.specs.BatchLaws.{CommitsBatch, CutIsLeft, CutIsOne, FitsLeft, PathsLead, PermitsActed, PermitsLost, PermitsShown, PermitsUnmounted, StepsBatch, StepsWritten};
 ghost use Rattle.posix_mode_laws.specs.Changes.{SizedDropped, SizedMade, SizedRemoved, SizedRenamed, SizedRenamedOverDirectory, SizedRenamedOverFile, SizedSwitched, SizedUnnamed};
 ghost use Rattle.posix_mode_laws.specs.Claims.{KeepsClaims, SizedAgain, SizedKinds, SpaceSized};
-ghost use Rattle.posix_mode_laws.specs.Laws.{BeginsInPosixMode, HasLostWrite, HasWaitingBlock, HasWorldAfterCheckpoint, HasWorldCut, HasWorldCutInCheckpoint, HasWorldInCheckpoint, HasWorldUsedAgain, HasWorldWithRun, KeepsCommitted, KeepsSane, KeepsStrongCommitted, PermitsTreeOfMedium, PermitsTreeStrongly, PosixRunsPromised, PosixRunsStrongly, StagesNoFreed, StrongRunsPromised};
+ghost use Rattle.posix_mode_laws.specs.Laws.{BeginsInPosixMode, HasLostWrite, HasWaitingBlock, HasWorldAfterCheckpoint, HasWorldCut, HasWorldCutInCheckpoint, HasWorldInCheckpoint, HasWorldUsedAgain, HasWorldWithRun, KeepsCommitted, KeepsSane, KeepsStrongCommitted, PermitsTreeOfMedium, PermitsTreeStrongly, PosixRunsPromised, StagesNoFreed};
 
 /// Sizes are no part of what makes a volume sane.
 pub fn sizes_are_no_rule()
@@ -58,12 +58,9 @@ pub fn the_tree_of_the_medium_is_permitted()
     ensures strongly { PermitsTreeStrongly }
 {}
 
-/// A device that runs in POSIX mode keeps the promise, by either rule for bytes. By the stronger one each tree is one
-/// of the stronger relation.
+/// A device that runs in POSIX mode, by the stronger rule for bytes, keeps the promise.
 pub fn posix_mode_keeps_its_promise()
-    ensures promised { PosixRunsPromised }
-    ensures by_stronger_rule { StrongRunsPromised }
-    ensures strongly { PosixRunsStrongly }
+    ensures { PosixRunsPromised }
 {}
 
 /// A device on which the World runs, with no claim and all lengths published, runs in POSIX mode.

@@ -83,10 +83,10 @@ module _ (k : View) (t : Tables) (staging : Staged) (files : Files) (w : WorldVi
   going = world.going on
 
   standing : StandsAt w.geometry k t (kept_of w staging files) true (length w.history) (state_of w)
-  standing = subst (λ b. StandsAt w.geometry k t (kept_of w staging files) b (length w.history) (state_of w)) holds.are.out going.stands
+  standing = subst (λ b. StandsAt w.geometry k t (kept_of w staging files) b (length w.history) (state_of w)) holds.are.out (going.stands world.mode)
 
   hold_claims : ended.AreCrashLines k.volume.geometry k.volume.base (first_by w.geometry w.first) w.claims [] [] lines
-  hold_claims = lines_hold k.volume w lines going.stands.geometry (sym going.base) holds
+  hold_claims = lines_hold k.volume w lines standing.geometry (sym going.base) holds
 
   lent : (i : ℕ) → IsLogWord k.volume i → is_lent (cell k.cells i) ≡ true
   lent i at =

@@ -157,9 +157,14 @@ module _ (ending : EndBegun) (g : Geometry) (image : Words) (k : View) (t : List
       let was = may.mounted.old_lines slot below (ap is_self_valid (sym (seen slot)) ∙ valid) in
       omega (arith, was, ap held_seq (seen slot))
 
+  not_posix : (start t shape mode).mode ≢ Mode.Posix
+  not_posix posix = may.mode_is (sym (has_setting t shape mode).1 ∙ posix)
+
   going : IsGoing k nothing_open nothing_staged files (first_view k files t shape mode scripts)
   going = record {
-    stands = stands;
+    stands = λ other. stands;
+    gathers = λ posix. absurd (not_posix posix);
+    waits = λ posix. absurd (not_posix posix);
     counted = λ mode. refl;
     runs = λ settled. refl;
     bare = λ goes none. refl;
@@ -188,7 +193,7 @@ module _ (ending : EndBegun) (g : Geometry) (image : Words) (k : View) (t : List
   -- THE WORLD GOES ON.
   pub starts : IsWorldOver k nothing_open nothing_staged files (first_view k files t shape mode scripts)
   starts = record {
-    mode = λ posix. may.mode_is (sym (has_setting t shape mode).1 ∙ posix);
+    mode = not_posix;
     few = may.limits.few;
     threads = may.limits.threads;
     spelled = may.limits.spelled;

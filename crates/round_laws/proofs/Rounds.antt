@@ -97,8 +97,10 @@ module _ (turning : StandsHome) (holding : LinesHoldOut) (gathered : StandsGathe
 
   next_going : EndGathered → IsGoing m t then table (next_view w (disk_of m t then table))
   next_going ends = record {
-    stands = subst (λ (ps : List JobOut). StandsAt w.geometry m t (record { staging = then; files = table; claims = []; pending = ps; first = first_by w.geometry w.first }) false (length w.history) (state_of w)) (sym ending.none_out)
+    stands = λ mode. subst (λ (ps : List JobOut). StandsAt w.geometry m t (record { staging = then; files = table; claims = []; pending = ps; first = first_by w.geometry w.first }) false (length w.history) (state_of w)) (sym ending.none_out)
         (subst (λ (x : Staged). StandsAt w.geometry m t (record { staging = x; files = table; claims = []; pending = []; first = first_by w.geometry w.first }) false (length w.history) (state_of w)) (sym nothing) stands_behind);
+    gathers = λ posix. absurd (ending.world.mode posix);
+    waits = λ posix. absurd (ending.world.mode posix);
     counted = λ mode. (let none : length then.out ≡ 0 = ap (λ (x : Staged). length x.out) nothing in omega (arith, none, ap (λ (ps : List JobOut). length ps) ending.none_out));
     runs = λ settled. (let none : length then.out ≡ 0 = ap (λ (x : Staged). length x.out) nothing in omega (arith, none, ap (λ (ps : List JobOut). length ps) ending.none_out));
     bare = λ goes none. nothing;

@@ -19,7 +19,7 @@ module _ (k : View) (t : Tables) (staging : Staged) (files : Files) (w : WorldVi
   going = world.going on
 
   stands : StandsAt w.geometry k t (kept_of w staging files) w.lines_out (length w.history) (state_of w)
-  stands = going.stands
+  stands = going.stands world.mode
 
   -- each word of the log is alone
   single_log : HasSingleLog k

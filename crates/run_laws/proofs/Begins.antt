@@ -74,15 +74,15 @@ module _ (who : Who) (w : WorldView) (out : OutView) (can : CanBegin who w out) 
 
   -- ---- it returns
 
-  module _ (new : WorldView) (before after : Supply) (steps : Steps (most_of (next_of w who)) before after) (is : Returns who w new before after) where
+  module _ (new : WorldView) (before after : Supply) (steps : Steps (most_of w.start.mode (next_of w who)) before after) (is : Returns who w new before after) where
     abbrev item : Item
     item = item_of w who is.call
 
     abbrev v : WorldView
     v = record w { history = w.history ++ item ∷ []; acts = w.acts + 1; disk = new.disk }
 
-    took : Steps (most_of_call is.call) before after
-    took = subst (λ (o : Option Call). Steps (most_of o) before after) is.begins.next steps
+    took : Steps (most_of_call w.start.mode is.call) before after
+    took = subst (λ (o : Option Call). Steps (most_of w.start.mode o) before after) is.begins.next steps
 
     count : length (w.history ++ item ∷ []) ≡ length w.history + 1
     count = one_longer w.history item
@@ -126,16 +126,16 @@ module _ (who : Who) (w : WorldView) (out : OutView) (can : CanBegin who w out) 
     returned_paid first was = record {
       any = both.any;
       ahead = both.ahead;
-      quiet = λ quiet. (
+      quiet = λ calm quiet. (
           let none = quiet_before w.scripts w.history item is.begins.next quiet in
-          let small_steps : Steps 512 before after = subst (λ (n : ℕ). Steps n before after) (quiet_call is.call (quiet_call_now quiet)) took in
-          let before_it = was.quiet none in
+          let small_steps : Steps 512 before after = subst (λ (n : ℕ). Steps n before after) (quiet_call w.start.mode is.call calm (quiet_call_now quiet)) took in
+          let before_it = was.quiet calm none in
           subst (λ (n : ℕ). Steps (512 * n) first after) (sym count)
           (record { given = small_steps.given ∙ before_it.given; on_before = λ on. before_it.on_before (small_steps.on_before on); later = omega (arith, before_it.later, small_steps.later); bound = omega (arith, before_it.bound, small_steps.bound) }));
-      tree = λ given some. tree_more first before after w v item (steps_early out.jobs) given (most_of_call is.call) refl refl took (was.tree given some) (was.any.given ∙ some) is.on is.spent;
+      tree = λ given some. tree_more first before after w v item (steps_early out.jobs) given (most_of_call w.start.mode is.call) refl refl took (was.tree given some) (was.any.given ∙ some) is.on is.spent;
     } where
       both : IsPaidAny first after v out.jobs
-      both = pays first before after w v out.jobs out.jobs (most_of (next_of w who)) was steps (omega (arith, small (next_of w who)))
+      both = pays first before after w v out.jobs out.jobs (most_of w.start.mode (next_of w who)) was steps (omega (arith, small w.start.mode (next_of w who)))
 
     returned : GoesOn w out v out before after
     returned = record { later = record { geometry = refl; start = refl; scripts = refl }; between = returned_between; less = returned_less; on = is.on; paid = returned_paid }
@@ -145,7 +145,7 @@ module _ (who : Who) (w : WorldView) (out : OutView) (can : CanBegin who w out) 
 
   -- ---- a job is out
 
-  module _ (new : WorldView) (before after : Supply) (job : JobView) (steps : Steps (most_of (next_of w who)) before after) (is : BeginsJob who w new after job) where
+  module _ (new : WorldView) (before after : Supply) (job : JobView) (steps : Steps (most_of w.start.mode (next_of w who)) before after) (is : BeginsJob who w new after job) where
     abbrev p : JobOut
     p = is.pending
 
@@ -221,11 +221,11 @@ module _ (who : Who) (w : WorldView) (out : OutView) (can : CanBegin who w out) 
     begun_paid first was = record {
       any = both.any;
       ahead = both.ahead;
-      quiet = λ quiet. (let never : true ≡ false = sym moves_w ∙ quiet in cc);
-      tree = λ given some. (let sum = sum_pushed (λ (x : Held). early_in x.work) out.jobs h in tree_later first before after w u (steps_early out.jobs) (steps_early left.jobs) given (most_of (next_of w who)) refl refl (omega (arith, sum)) steps (was.tree given some));
+      quiet = λ calm quiet. (let never : true ≡ false = sym moves_w ∙ quiet in cc);
+      tree = λ given some. (let sum = sum_pushed (λ (x : Held). early_in x.work) out.jobs h in tree_later first before after w u (steps_early out.jobs) (steps_early left.jobs) given (most_of w.start.mode (next_of w who)) refl refl (omega (arith, sum)) steps (was.tree given some));
     } where
       both : IsPaidAny first after u left.jobs
-      both = pays first before after w u out.jobs left.jobs (most_of (next_of w who)) was steps (omega (arith, small (next_of w who), sum_pushed (λ (x : Held). steps_in x.work) out.jobs h))
+      both = pays first before after w u out.jobs left.jobs (most_of w.start.mode (next_of w who)) was steps (omega (arith, small w.start.mode (next_of w who), sum_pushed (λ (x : Held). steps_in x.work) out.jobs h))
 
     begun : GoesOn w out u left before after
     begun = record { later = record { geometry = refl; start = refl; scripts = refl }; between = begun_between; less = begun_less; on = is.on; paid = begun_paid }
@@ -248,7 +248,7 @@ module _ (who : Who) (w : WorldView) (out : OutView) (can : CanBegin who w out) 
   lacks_moves filled call need room (inr (inl holes)) = holes_move w who call holes.some
   lacks_moves filled call need room (inr (inr run)) = staging_moves (with_disk w filled) call need (put_by (state_of w) who call) refl run.staging.need_is
 
-  module _ (new : WorldView) (before after : Supply) (need room : ℕ) (steps : Steps (most_of (next_of w who)) before after) (is : EndsRound who w new after need room) where
+  module _ (new : WorldView) (before after : Supply) (need room : ℕ) (steps : Steps (most_of w.start.mode (next_of w who)) before after) (is : EndsRound who w new after need room) where
     abbrev z : WorldView
     z = record w { over = Some (Over.Space need room); acts = w.acts + 1; disk = new.disk }
 
@@ -295,11 +295,11 @@ module _ (who : Who) (w : WorldView) (out : OutView) (can : CanBegin who w out) 
     ended_paid first was = record {
       any = both.any;
       ahead = both.ahead;
-      quiet = λ quiet. (let never : true ≡ false = sym moves_z ∙ quiet in cc);
-      tree = λ given some. tree_later first before after w z (steps_early out.jobs) (steps_early out.jobs) given (most_of (next_of w who)) refl refl (omega arith) steps (was.tree given some);
+      quiet = λ calm quiet. (let never : true ≡ false = sym moves_z ∙ quiet in cc);
+      tree = λ given some. tree_later first before after w z (steps_early out.jobs) (steps_early out.jobs) given (most_of w.start.mode (next_of w who)) refl refl (omega arith) steps (was.tree given some);
     } where
       both : IsPaidAny first after z out.jobs
-      both = pays first before after w z out.jobs out.jobs (most_of (next_of w who)) was steps (omega (arith, small (next_of w who)))
+      both = pays first before after w z out.jobs out.jobs (most_of w.start.mode (next_of w who)) was steps (omega (arith, small w.start.mode (next_of w who)))
 
     ended : GoesOn w out z out before after
     ended = record { later = record { geometry = refl; start = refl; scripts = refl }; between = ended_between; less = ended_less; on = is.on; paid = ended_paid }
@@ -309,7 +309,7 @@ module _ (who : Who) (w : WorldView) (out : OutView) (can : CanBegin who w out) 
 
   -- ---- the power goes
 
-  module _ (new : WorldView) (before after : Supply) (steps : Steps (most_of (next_of w who)) before after) where
+  module _ (new : WorldView) (before after : Supply) (steps : Steps (most_of w.start.mode (next_of w who)) before after) where
     jobs_alone : calls_out w ≡ map begun_by w.pending
     jobs_alone = ap (λ (cs : List Unfinished). map begun_by w.pending ++ cs) b.none_unfinished ∙ append-nil (map begun_by w.pending)
 
@@ -318,8 +318,8 @@ module _ (who : Who) (w : WorldView) (out : OutView) (can : CanBegin who w out) 
       abbrev y : WorldView
       y = record w { unfinished = (who, is.call) ∷ []; acts = w.acts + 1; disk = new.disk; lost = true }
 
-      took-2 : Steps (most_of_call is.call) before after
-      took-2 = subst (λ (o : Option Call). Steps (most_of o) before after) is.next steps
+      took-2 : Steps (most_of_call w.start.mode is.call) before after
+      took-2 = subst (λ (o : Option Call). Steps (most_of w.start.mode o) before after) is.next steps
 
       stay_y : OthersStay w y who
       stay_y = subst (λ (x : WorldView). OthersStay w x who) is.new_is is.stay
@@ -346,16 +346,16 @@ module _ (who : Who) (w : WorldView) (out : OutView) (can : CanBegin who w out) 
         };
         off = is.off;
         paid = λ first was. (
-            let both = pays first before after w y out.jobs out.jobs (most_of (next_of w who)) was steps (omega (arith, small (next_of w who))) in
+            let both = pays first before after w y out.jobs out.jobs (most_of w.start.mode (next_of w who)) was steps (omega (arith, small w.start.mode (next_of w who))) in
             record {
               any = both.any;
-              quiet = λ quiet. (
-                  let small_steps : Steps 512 before after = subst (λ (n : ℕ). Steps n before after) (quiet_call is.call (quiet_next w.scripts w.history who is.call is.next quiet)) took-2 in
-                  let before_it = was.quiet quiet in
+              quiet = λ calm quiet. (
+                  let small_steps : Steps 512 before after = subst (λ (n : ℕ). Steps n before after) (quiet_call w.start.mode is.call calm (quiet_next w.scripts w.history who is.call is.next quiet)) took-2 in
+                  let before_it = was.quiet calm quiet in
                   record { given = small_steps.given ∙ before_it.given; on_before = λ on. before_it.on_before (small_steps.on_before on); later = omega (arith, before_it.later, small_steps.later); bound = omega (arith, before_it.bound, small_steps.bound) });
-              tree = λ given some. tree_later first before after w y (steps_early out.jobs) 0 given (most_of (next_of w who)) refl refl (omega arith) steps (was.tree given some);
+              tree = λ given some. tree_later first before after w y (steps_early out.jobs) 0 given (most_of w.start.mode (next_of w who)) refl refl (omega arith) steps (was.tree given some);
             });
-        acted = λ first given on some was. pays_acted first before after w y out (steps_early out.jobs) (steps_early out.jobs + 1) given (most_of (next_of w who)) refl refl (was.any.given ∙ some) on is.off (omega arith) steps acted_y (was.tree given some);
+        acted = λ first given on some was. pays_acted first before after w y out (steps_early out.jobs) (steps_early out.jobs + 1) given (most_of w.start.mode (next_of w who)) refl refl (was.any.given ∙ some) on is.off (omega arith) steps acted_y (was.tree given some);
       }
 
       pub lost_now : LosesPower (Some who) w out new out before after
@@ -389,8 +389,8 @@ module _ (who : Who) (w : WorldView) (out : OutView) (can : CanBegin who w out) 
             let both = pays first before after w x-2 out.jobs out.jobs 0 was none (omega arith) in
             record {
               any = both.any;
-              quiet = λ quiet. (
-                  let before_it = was.quiet quiet in
+              quiet = λ calm quiet. (
+                  let before_it = was.quiet calm quiet in
                   record { given = none.given ∙ before_it.given; on_before = λ on. before_it.on_before (none.on_before on); later = omega (arith, before_it.later, none.later); bound = omega (arith, before_it.bound, none.bound) });
               tree = λ given some. tree_later first before after w x-2 (steps_early out.jobs) 0 given 0 refl refl (omega arith) none (was.tree given some);
             });

@@ -251,7 +251,7 @@ module _ (w : WorldView) (out : OutView) (log : RoundView) (can : CanCheck w out
       paid_v first was = record {
         any = both.any;
         ahead = both.ahead;
-        quiet = λ quiet. (let never : true ≡ false = sym moves_w ∙ quiet in cc);
+        quiet = λ calm quiet. (let never : true ≡ false = sym moves_w ∙ quiet in cc);
         tree = λ given some. tree_later first before after w v (steps_early out.jobs) 0 given (2 ^ 26) refl refl (omega arith) steps (was.tree given some);
       } where
         both : IsPaidAny first after v []
@@ -296,7 +296,7 @@ module _ (w : WorldView) (out : OutView) (log : RoundView) (can : CanCheck w out
             let both = pays first before after w u out.jobs [] (2 ^ 26) was steps (omega arith) in
             record {
               any = both.any;
-              quiet = λ quiet. (let never : true ≡ false = sym moves_w ∙ quiet in cc);
+              quiet = λ calm quiet. (let never : true ≡ false = sym moves_w ∙ quiet in cc);
               tree = λ given some. tree_later first before after w u (steps_early out.jobs) 0 given (2 ^ 26) refl refl (omega arith) steps (was.tree given some);
             });
         acted = λ first given on some was. pays_acted first before after w u nothing_out (steps_early out.jobs) 0 given (2 ^ 26) refl refl (was.any.given ∙ some) on off (omega arith) steps acted_u (was.tree given some);
@@ -352,38 +352,39 @@ not_true true is = cc
 not_true false is = refl
 
 -- what a quiet history is
-record AreQuiet (scripts : Scripts) (history : List Item) : Type 0 where
+record AreQuiet (mode : Mode) (scripts : Scripts) (history : List Item) : Type 0 where
+  calm : is_posix mode ≡ false
   left : nat_lt (length history) (call_count scripts) ≡ true
   history_is : has_moved history ≡ false
   next_is : next_moves scripts history ≡ false
 
-are_quiet : (mode : Mode) (scripts : Scripts) (history : List Item) → IsTrue (is_quiet mode scripts history) → AreQuiet scripts history
+are_quiet : (mode : Mode) (scripts : Scripts) (history : List Item) → IsTrue (is_quiet mode scripts history) → AreQuiet mode scripts history
 are_quiet mode scripts history quiet =
     let first = and_parts (not (is_posix mode) && nat_lt (length history) (call_count scripts) && not (has_moved history)) (not (list_any moves_data (next_calls scripts history))) quiet in
     let second = and_parts (not (is_posix mode) && nat_lt (length history) (call_count scripts)) (not (has_moved history)) first.0 in
     let third = and_parts (not (is_posix mode)) (nat_lt (length history) (call_count scripts)) second.0 in
-    record { left = third.1; history_is = not_true (has_moved history) second.1; next_is = not_true (next_moves scripts history) first.1 }
+    record { calm = not_true (is_posix mode) third.0; left = third.1; history_is = not_true (has_moved history) second.1; next_is = not_true (next_moves scripts history) first.1 }
 
 neither : (a b : Bool) → a ≡ false → b ≡ false → (a || b) ≡ false
 neither true b one two = cc
 neither false b one two = two
 
-quiet_now : (scripts : Scripts) (history : List Item) → AreQuiet scripts history → moves_by scripts history ≡ false
-quiet_now scripts history are = neither (has_moved history) (next_moves scripts history) are.history_is are.next_is
+quiet_now : (mode : Mode) (scripts : Scripts) (history : List Item) → AreQuiet mode scripts history → moves_by scripts history ≡ false
+quiet_now mode scripts history are = neither (has_moved history) (next_moves scripts history) are.history_is are.next_is
 
 pub affords_lost : AffordsLost
-affords_lost w first after steps mode paid few took = record {
+affords_lost w first after steps paid few took = record {
   by_any = omega (arith, few, took, paid.any.bound);
   by_names = λ quiet. (
-      let are = are_quiet mode w.scripts w.history quiet in
-      let bound = (paid.quiet (quiet_now w.scripts w.history are)).bound in
+      let are = are_quiet w.start.mode w.scripts w.history quiet in
+      let bound = (paid.quiet are.calm (quiet_now w.start.mode w.scripts w.history are)).bound in
       omega (arith, took, bound));
 }
 
 pub paid_is_paid_off : PaidIsPaidOff
 paid_is_paid_off w out first now paid = record {
   any = paid.any;
-  quiet = λ quiet. (let was = paid.quiet quiet in record { given = was.given; on_before = was.on_before; later = was.later; bound = omega (arith, was.bound) });
+  quiet = λ calm quiet. (let was = paid.quiet calm quiet in record { given = was.given; on_before = was.on_before; later = was.later; bound = omega (arith, was.bound) });
   tree = λ given some. (let kept = paid.tree given some in record { changed = kept.changed; fewer = (let fewer = kept.fewer in omega (arith, fewer)); most = (let most = kept.most in omega (arith, most)); each = kept.each });
 }
 
@@ -398,7 +399,7 @@ not_less : (m n : ℕ) → m ≡ n → nat_lt m n ≡ true → ⊥
 not_less m n same below = absurd (grind (arith, same, below))
 
 pub affords_whole : AffordsWhole
-affords_whole w out first now after steps mode paid complete few more took = record {
+affords_whole w out first now after steps paid complete few more took = record {
   by_any = omega (arith, few, took, paid.any.bound, more.bound);
-  by_names = λ quiet. absurd (not_less (length w.history) (call_count w.scripts) complete (are_quiet mode w.scripts w.history quiet).left);
+  by_names = λ quiet. absurd (not_less (length w.history) (call_count w.scripts) complete (are_quiet w.start.mode w.scripts w.history quiet).left);
 }

@@ -177,7 +177,7 @@ module _ (who : Who) (w new : WorldView) (out : OutView) (i slot : ℕ) (before 
     finished_paid first was = record {
       any = both.any;
       ahead = both.ahead;
-      quiet = λ quiet. (let never : true ≡ false = sym (later_moves (job_moves w out b i h at)) ∙ quiet in cc);
+      quiet = λ calm quiet. (let never : true ≡ false = sym (later_moves (job_moves w out b i h at)) ∙ quiet in cc);
       tree = λ given some. tree_paid first before after w z item (steps_early out.jobs) given (2 ^ 26) refl refl steps (was.tree given some) (steps_early left) (sym (sum_taken (λ (x : Held). early_in x.work) out.jobs i h at));
     } where
       both : IsPaidAny first after z left
@@ -237,7 +237,7 @@ module _ (who : Who) (w new : WorldView) (out : OutView) (i slot : ℕ) (before 
           let both = pays first before after w u out.jobs others (2 ^ 26) was steps (omega (arith, acts_are, sum_taken (λ (x : Held). steps_in x.work) out.jobs i h at)) in
           record {
             any = both.any;
-            quiet = λ quiet. (let never : true ≡ false = sym (job_moves w out b i h at) ∙ quiet in cc);
+            quiet = λ calm quiet. (let never : true ≡ false = sym (job_moves w out b i h at) ∙ quiet in cc);
             tree = λ given some. tree_later first before after w u (steps_early out.jobs) 0 given (2 ^ 26) refl refl (omega arith) steps (was.tree given some);
           });
       acted = λ first given on some was. pays_acted first before after w u (without_job out i) (steps_early out.jobs) (steps_early out.jobs) given (2 ^ 26) refl refl (was.any.given ∙ some) on off-u (omega arith) steps acted-u (was.tree given some);

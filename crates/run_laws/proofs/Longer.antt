@@ -1,5 +1,5 @@
 -- A history with one more call: what it changed, moved and took.
-use Rattle.std.specs.Prelude.{◌≡◌, ◌⊎◌, ◌<◌, ◌≤◌, ◌+◌, ◌-◌, ◌||◌, ℕ, Bool, true, false, nat_lt, List, [], ◌∷◌, ◌++◌, map, Option, None, Some, refl}
+use Rattle.std.specs.Prelude.{◌≡◌, ◌≢◌, ◌⊎◌, ◌<◌, ◌≤◌, ◌+◌, ◌-◌, ◌||◌, ℕ, Bool, true, false, nat_lt, List, [], ◌∷◌, ◌++◌, map, Option, None, Some, refl}
 use Rattle.std.specs.List.{list_any}
 use Rattle.std.proofs.Common.{arith, ap, ◌∙◌, sym, subst, inl, inr}
 use Rattle.std.proofs.lemmas.Bool.{ltb-false}
@@ -9,6 +9,7 @@ use Rattle.std.proofs.lemmas.List.Folds.{list_any-append}
 use Rattle.world_view_laws.specs.k_journal.Commits.{TakesAStep}
 use Rattle.round_log.specs.pm_model.Powers.{is_left, is_on, Steps, Supply}
 use Rattle.world_view_laws.specs.posix_types.declared.call.Call.{Call}
+use Rattle.world_view_laws.specs.posix_types.declared.call.Mode.{Mode}
 use Rattle.world_view_laws.specs.posix_types.declared.call.Who.{Who}
 use Rattle.world_view_laws.specs.posix_types.declared.item.Item.{Item}
 use Rattle.world_view_laws.specs.posix_tables.Open.{same_who}
@@ -117,13 +118,18 @@ Steps-more m n a b least steps = record { given = steps.given; on_before = steps
 
 -- ---- steps for the changes of the tree
 
+-- a mode that is not POSIX mode's, of two states that are one
+same_mode : (s t : State) → s ≡ t → s.mode ≢ Mode.Posix → t.mode ≢ Mode.Posix
+same_mode s t same other posix = other (ap (λ (x : State). x.mode) same ∙ posix)
+
 -- the same history, later, with no more steps ahead of their calls
 pub tree_later : (first now after : Supply) (w v : WorldView) (early left given n : ℕ) → v.start ≡ w.start → v.history ≡ w.history → left ≤ early → Steps n now after → KeepsTree first now w early given → KeepsTree first after v left given
 tree_later first now after w v early left given n start history fewer steps kept = record {
   changed = kept.changed;
   fewer = omega (arith, kept.fewer, steps.later, fewer);
   most = omega (arith, kept.most, fewer);
-  each = subst (λ (s : State). ChangesTreeAtMost s v.history kept.changed) (sym start) (subst (λ (h : List Item). ChangesTreeAtMost w.start h kept.changed) (sym history) kept.each);
+  each = λ mode. subst (λ (s : State). ChangesTreeAtMost s v.history kept.changed) (sym start)
+      (subst (λ (h : List Item). ChangesTreeAtMost w.start h kept.changed) (sym history) (kept.each (same_mode v.start w.start start mode)));
 }
 
 -- the power went: a step was taken in which it did
@@ -136,7 +142,8 @@ tree_off first now after w v early left given n start history given_now on off o
       changed = kept.changed;
       fewer = omega (arith, kept.fewer, below, past, one);
       most = omega (arith, kept.fewer, below, one);
-      each = subst (λ (s : State). ChangesTreeAtMost s v.history kept.changed) (sym start) (subst (λ (h : List Item). ChangesTreeAtMost w.start h kept.changed) (sym history) kept.each);
+      each = λ mode. subst (λ (s : State). ChangesTreeAtMost s v.history kept.changed) (sym start)
+          (subst (λ (h : List Item). ChangesTreeAtMost w.start h kept.changed) (sym history) (kept.each (same_mode v.start w.start start mode)));
     }
 
 -- a step more, ahead of its call
@@ -156,23 +163,38 @@ module _ (first now after : Supply) (w v : WorldView) (item : Item) (early given
   most_by : (m : ℕ) → ChangesTreeAtMost w.start (w.history ++ item ∷ []) m → ChangesTreeAtMost v.start v.history m
   most_by m few = subst (λ (s : State). ChangesTreeAtMost s v.history m) (sym start) (subst (λ (h : List Item). ChangesTreeAtMost w.start h m) (sym history) few)
 
-  -- one call more, which left the tree or took a step
-  pub tree_more : now.given ≡ Some given → is_on after ≡ true → (tree (after_item (run w.start w.history) item) ≡ tree (run w.start w.history)) ⊎ TakesAStep now after → KeepsTree first after v early given
-  tree_more given_now on (inl stays) = record {
+  -- the mode before
+  mode_before : v.start.mode ≢ Mode.Posix → w.start.mode ≢ Mode.Posix
+  mode_before = same_mode v.start w.start start
+
+  -- one call more, of which no change of the tree is counted
+  tree_stays : (w.start.mode ≢ Mode.Posix → tree (after_item (run w.start w.history) item) ≡ tree (run w.start w.history)) → KeepsTree first after v early given
+  tree_stays stays = record {
     changed = kept.changed;
     fewer = omega (arith, kept.fewer, steps.later);
     most = kept.most;
-    each = most_by kept.changed (same_tree w.start w.history item kept.changed kept.each stays);
+    each = λ mode. most_by kept.changed (same_tree w.start w.history item kept.changed (kept.each (mode_before mode)) (stays (mode_before mode)));
   }
-  tree_more given_now on (inr takes) =
-      let more = takes given given_now in
-      let below = on_below given after (steps.given ∙ given_now) on in
-      record {
-        changed = kept.changed + 1;
-        fewer = omega (arith, kept.fewer, more);
-        most = omega (arith, kept.fewer, more, below);
-        each = most_by (kept.changed + 1) (one_change w.start w.history item kept.changed kept.each);
-      }
+
+  -- one call more, which left the tree or took a step, outside POSIX mode
+  pub tree_more : now.given ≡ Some given → is_on after ≡ true → (w.start.mode ≢ Mode.Posix → (tree (after_item (run w.start w.history) item) ≡ tree (run w.start w.history)) ⊎ TakesAStep now after) → KeepsTree first after v early given
+  tree_more given_now on spent = by w.start.mode refl where
+    by_spent : (tree (after_item (run w.start w.history) item) ≡ tree (run w.start w.history)) ⊎ TakesAStep now after → KeepsTree first after v early given
+    by_spent (inl stays) = tree_stays (λ mode. stays)
+    by_spent (inr takes) =
+        let more = takes given given_now in
+        let below = on_below given after (steps.given ∙ given_now) on in
+        record {
+          changed = kept.changed + 1;
+          fewer = omega (arith, kept.fewer, more);
+          most = omega (arith, kept.fewer, more, below);
+          each = λ mode. most_by (kept.changed + 1) (one_change w.start w.history item kept.changed (kept.each (mode_before mode)));
+        }
+
+    by : (mode : Mode) → w.start.mode ≡ mode → KeepsTree first after v early given
+    by Mode.Strict is = by_spent (spent (λ posix. let never : Mode.Strict ≡ Mode.Posix = sym is ∙ posix in cc))
+    by Mode.Sync is = by_spent (spent (λ posix. let never : Mode.Sync ≡ Mode.Posix = sym is ∙ posix in cc))
+    by Mode.Posix is = tree_stays (λ other. absurd (other is))
 
   -- one call more, whose step was taken ahead of it
   pub tree_paid : (left : ℕ) → early ≡ left + 1 → KeepsTree first after v left given
@@ -180,7 +202,7 @@ module _ (first now after : Supply) (w v : WorldView) (item : Item) (early given
     changed = kept.changed + 1;
     fewer = omega (arith, kept.fewer, steps.later, one);
     most = omega (arith, kept.most, one);
-    each = most_by (kept.changed + 1) (one_change w.start w.history item kept.changed kept.each);
+    each = λ mode. most_by (kept.changed + 1) (one_change w.start w.history item kept.changed (kept.each (mode_before mode)));
   }
 
 -- ---- a given number of steps
@@ -191,4 +213,4 @@ weaker s (x ∷ items) n k (inl own) least = inl (own.0, weaker (after_item s x)
 weaker s (x ∷ items) n k (inr one) least = inr (k - 1, omega (arith, one.1, least), weaker (after_item s x) items one.0 (k - 1) one.2 (omega (arith, one.1, least)))
 
 pub keeps_given : KeepsGiven
-keeps_given first now w early given kept = weaker w.start w.history kept.changed given kept.each (let most = kept.most in omega (arith, most))
+keeps_given first now w early given kept mode = weaker w.start w.history kept.changed given (kept.each mode) (let most = kept.most in omega (arith, most))

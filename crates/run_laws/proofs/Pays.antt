@@ -1,12 +1,13 @@
 -- What events take of the power is paid for.
-use Rattle.std.specs.Prelude.{◌≡◌, ◌⊎◌, ◌≤◌, ◌+◌, ◌*◌, ◌^◌, ℕ, Bool, true, false, List, Option, Some, None, if◌then◌else◌, refl}
+use Rattle.std.specs.Prelude.{◌||◌, ◌≡◌, ◌⊎◌, ◌≤◌, ◌+◌, ◌*◌, ◌^◌, ℕ, Bool, true, false, List, Option, Some, None, if◌then◌else◌, refl}
 use Rattle.std.proofs.Common.{arith, ap, ◌∙◌, sym, inl, inr}
 use Rattle.round_log.specs.pm_model.Powers.{is_on, Steps, Supply}
 use Rattle.run_laws.specs.Paid.{KeepsTree}
 use Rattle.world_view_laws.specs.in_flight.Costs.{most_of, most_of_call}
 use Rattle.world_view_laws.specs.k_journal.Commits.{TakesAStep}
 use Rattle.world_view_laws.specs.posix_types.declared.call.Call.{Call}
-use Rattle.world_view_laws.specs.posix_spec.Afforded.{moves_data}
+use Rattle.world_view_laws.specs.posix_types.declared.call.Mode.{Mode}
+use Rattle.world_view_laws.specs.posix_spec.Afforded.{is_posix, moves_data}
 use Rattle.world_view_laws.specs.Views.{WorldView}
 use Rattle.run_laws.proofs.Longer.{tree_ahead, tree_later, tree_off}
 use Rattle.run_laws.specs.declared.held.Held.{Held}
@@ -18,19 +19,19 @@ use Rattle.run_laws.specs.EventsPaid.{act_steps, HaveActed, IsPaid, IsPaidOff, m
 pub no_steps : (p : Supply) → Steps 0 p p
 no_steps p = record { given = refl; on_before = λ on. on; later = omega arith; bound = omega arith }
 
-small_call : (call : Call) → most_of_call call ≤ 2 ^ 26
-small_call call = by (moves_data call) where
+small_call : (mode : Mode) (call : Call) → most_of_call mode call ≤ 2 ^ 26
+small_call mode call = by (is_posix mode || moves_data call) where
   by : (b : Bool) → (if b then 2 ^ 26 else 512) ≤ 2 ^ 26
   by true = omega arith
   by false = omega arith
 
-pub small : (o : Option Call) → most_of o ≤ 2 ^ 26
-small None = omega arith
-small (Some call) = small_call call
+pub small : (mode : Mode) (o : Option Call) → most_of mode o ≤ 2 ^ 26
+small mode None = omega arith
+small mode (Some call) = small_call mode call
 
--- a call that moves no data
-pub quiet_call : (call : Call) → moves_data call ≡ false → most_of_call call ≡ 512
-quiet_call call none = ap (λ (b : Bool). if b then 2 ^ 26 else 512) none
+-- a call that moves no data, outside POSIX mode
+pub quiet_call : (mode : Mode) (call : Call) → is_posix mode ≡ false → moves_data call ≡ false → most_of_call mode call ≡ 512
+quiet_call mode call calm none = ap (λ (b : Bool). if b || moves_data call then 2 ^ 26 else 512) calm ∙ ap (λ (b : Bool). if b then 2 ^ 26 else 512) none
 
 -- ---- so many steps more
 
@@ -64,7 +65,7 @@ pub pays_on : (first before after : Supply) (w : WorldView) (jobs left : List He
 pays_on first before after w jobs left n moves steps enough early was = record {
   any = both.any;
   ahead = both.ahead;
-  quiet = λ quiet. (let never : true ≡ false = sym moves ∙ quiet in cc);
+  quiet = λ calm quiet. (let never : true ≡ false = sym moves ∙ quiet in cc);
   tree = λ given some. still_keeps first before after w (steps_early jobs) (steps_early left) given n (was.any.given ∙ some) steps early (was.tree given some);
 } where
   both : IsPaidAny first after w left
@@ -87,6 +88,6 @@ pays_off first before after w jobs n moves steps enough was = record {
     later = omega (arith, was.any.later, steps.later);
     bound = omega (arith, was.ahead, steps.bound, enough);
   };
-  quiet = λ quiet. (let never : true ≡ false = sym moves ∙ quiet in cc);
+  quiet = λ calm quiet. (let never : true ≡ false = sym moves ∙ quiet in cc);
   tree = λ given some. tree_later first before after w w (steps_early jobs) 0 given n refl refl (omega arith) steps (was.tree given some);
 }

@@ -86,25 +86,25 @@ pub record CanBegin (who : Who) (w : WorldView) (out : OutView) : Type 0 where
 -- IT RETURNS.
 abbrev pub CallReturns : Type 0
 CallReturns =
-    (who : Who) (w new : WorldView) (out : OutView) (before after : Supply) → CanBegin who w out → Steps (most_of (next_of w who)) before after → Returns who w new before after
+    (who : Who) (w new : WorldView) (out : OutView) (before after : Supply) → CanBegin who w out → Steps (most_of w.start.mode (next_of w who)) before after → Returns who w new before after
     → GoesOn w out new out before after
 
 -- IT IS LOGGED: a job is out.
 abbrev pub JobBegins : Type 0
 JobBegins =
-    (who : Who) (w new : WorldView) (out : OutView) (before after : Supply) (job : JobView) → CanBegin who w out → Steps (most_of (next_of w who)) before after → BeginsJob who w new after job
+    (who : Who) (w new : WorldView) (out : OutView) (before after : Supply) (job : JobView) → CanBegin who w out → Steps (most_of w.start.mode (next_of w who)) before after → BeginsJob who w new after job
     → GoesOn w out new (with_job out (held who (Work.Began job))) before after
 
 -- THE ROUND ENDS for want of space.
 abbrev pub RoundEnds : Type 0
 RoundEnds =
-    (who : Who) (w new : WorldView) (out : OutView) (before after : Supply) (need left : ℕ) → CanBegin who w out → Steps (most_of (next_of w who)) before after → EndsRound who w new after need left
+    (who : Who) (w new : WorldView) (out : OutView) (before after : Supply) (need left : ℕ) → CanBegin who w out → Steps (most_of w.start.mode (next_of w who)) before after → EndsRound who w new after need left
     → GoesOn w out new out before after
 
 -- THE POWER GOES.
 abbrev pub BeginLoses : Type 0
 BeginLoses =
-    (who : Who) (w new : WorldView) (out : OutView) (before after : Supply) → CanBegin who w out → Steps (most_of (next_of w who)) before after → IsPowerLost who w new before after
+    (who : Who) (w new : WorldView) (out : OutView) (before after : Supply) → CanBegin who w out → Steps (most_of w.start.mode (next_of w who)) before after → IsPowerLost who w new before after
     → LosesPower (Some who) w out new out before after
 
 -- ---- a job is filled
@@ -244,12 +244,12 @@ abbrev pub MayEnd : Type 0
 MayEnd =
     (w : WorldView) (out : OutView) (log : RoundView) → Between w out → out.log ≡ Some log → IsComplete w.scripts w.history → (out.jobs ≡ []) × MayUnmount w log.lines
 
--- THE STEPS ARE AFFORDED where the power went, whatever the mode is; where a run was cut, with the power on; and where all calls returned,
+-- THE STEPS ARE AFFORDED where the power went; where a run was cut, with the power on; and where all calls returned,
 -- and an unmount came behind them.
 abbrev pub AffordsLost : Type 0
 AffordsLost =
-    (w : WorldView) (first after : Supply) (steps : ℕ) (mode : Mode) → IsPaidOff first after w → w.acts ≤ 16 * (length w.history + 2) → after.taken ≡ first.taken + steps
-    → Afforded steps w.history w.scripts mode
+    (w : WorldView) (first after : Supply) (steps : ℕ) → IsPaidOff first after w → w.acts ≤ 16 * (length w.history + 2) → after.taken ≡ first.taken + steps
+    → Afforded steps w.history w.scripts w.start.mode
 
 abbrev pub PaidIsPaidOff : Type 0
 PaidIsPaidOff = (w : WorldView) (out : OutView) (first now : Supply) → IsPaid first now w out.jobs → IsPaidOff first now w
@@ -261,5 +261,5 @@ ActedBetween =
 
 abbrev pub AffordsWhole : Type 0
 AffordsWhole =
-    (w : WorldView) (out : OutView) (first now after : Supply) (steps : ℕ) (mode : Mode) → IsPaid first now w out.jobs → IsComplete w.scripts w.history → w.acts ≤ 16 * (length w.history + 2)
-    → Steps (2 ^ 26) now after → after.taken ≡ first.taken + steps → Afforded steps w.history w.scripts mode
+    (w : WorldView) (out : OutView) (first now after : Supply) (steps : ℕ) → IsPaid first now w out.jobs → IsComplete w.scripts w.history → w.acts ≤ 16 * (length w.history + 2)
+    → Steps (2 ^ 26) now after → after.taken ≡ first.taken + steps → Afforded steps w.history w.scripts w.start.mode

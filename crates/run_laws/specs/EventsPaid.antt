@@ -3,7 +3,7 @@ use Rattle.std.specs.Prelude.{◌≡◌, ◌≤◌, ◌+◌, ◌*◌, ◌^◌, �
 use Rattle.std.specs.List.{list_any}
 use Rattle.round_log.specs.pm_model.Powers.{Steps, Supply}
 use Rattle.world_view_laws.specs.posix_types.declared.item.Item.{Item}
-use Rattle.world_view_laws.specs.posix_spec.Afforded.{moves_data, next_calls}
+use Rattle.world_view_laws.specs.posix_spec.Afforded.{is_posix, moves_data, next_calls}
 use Rattle.world_view_laws.specs.live_model.Standing.{JobOut}
 use Rattle.world_view_laws.specs.Losses.{calls_acted, TellsActed}
 use Rattle.world_view_laws.specs.Views.{WorldView}
@@ -42,13 +42,13 @@ early_in (Work.Persisted job slot) = 1
 abbrev pub steps_early : List Held → ℕ
 steps_early jobs = sum_by (λ (h : Held). early_in h.work) jobs
 
--- THE STEPS SINCE A FIRST SUPPLY: for each act at most `act_steps`, those that are left to the jobs among them; where no call that returned
--- moved data and no next one may, 512 for each call that returned; and one at least for each call that changed the tree, and for each job
+-- THE STEPS SINCE A FIRST SUPPLY: for each act at most `act_steps`, those that are left to the jobs among them; outside POSIX mode, where no
+-- call that returned moved data and no next one may, 512 for each call that returned; and one at least for each call that changed the tree, and for each job
 -- whose entry was stored.
 pub record IsPaid (first now : Supply) (w : WorldView) (jobs : List Held) : Type 0 where
   pub any : Steps (act_steps * w.acts) first now
   pub ahead : now.taken + steps_ahead jobs ≤ first.taken + act_steps * w.acts
-  pub quiet : moves_now w ≡ false → Steps (512 * length w.history) first now
+  pub quiet : is_posix w.start.mode ≡ false → moves_now w ≡ false → Steps (512 * length w.history) first now
   pub tree : (given : ℕ) → first.given ≡ Some given → KeepsTree first now w (steps_early jobs) given
 
 -- AT MOST SO MANY OF THE CALLS THAT ARE OUT ACTED: those that a test tells, by the lines that are out.
@@ -66,5 +66,5 @@ pub record PaysForActed (first now : Supply) (w : WorldView) (out : OutView) (gi
 -- where the power went, 512 also for the call that may be unfinished
 pub record IsPaidOff (first now : Supply) (w : WorldView) : Type 0 where
   pub any : Steps (act_steps * w.acts) first now
-  pub quiet : moves_now w ≡ false → Steps (512 * (length w.history + 1)) first now
+  pub quiet : is_posix w.start.mode ≡ false → moves_now w ≡ false → Steps (512 * (length w.history + 1)) first now
   pub tree : (given : ℕ) → first.given ≡ Some given → KeepsTree first now w 0 given

@@ -1,8 +1,9 @@
 -- What a run of the scripts of a World is.
-use Rattle.std.specs.Prelude.{◌≡◌, ◌⊎◌, ◌≤◌, ◌<◌, ◌+◌, ◌*◌, ◌^◌, ℕ, true, false, List, [], ◌∷◌, ◌++◌, length, Option, None, Some}
+use Rattle.std.specs.Prelude.{◌≡◌, ◌≢◌, ◌⊎◌, ◌≤◌, ◌<◌, ◌+◌, ◌*◌, ◌^◌, ℕ, true, false, List, [], ◌∷◌, ◌++◌, length, Option, None, Some}
 use Rattle.round_log.specs.pm_model.declared.Cell.{Cell}
 use Rattle.round_log.specs.pm_model.Cells.{AllHome}
 use Rattle.round_log.specs.pm_model.Powers.{is_on, Supply}
+use Rattle.world_view_laws.specs.posix_types.declared.call.Mode.{Mode}
 use Rattle.world_view_laws.specs.posix_types.declared.item.Item.{Item}
 use Rattle.world_view_laws.specs.posix_spec.Afforded.{Afforded}
 use Rattle.world_view_laws.specs.posix_spec.Run.{Unfinished, IsLegal}
@@ -48,7 +49,8 @@ pub record KeepsStop (w : WorldView) (pm : List Cell) (history : List Item) (unf
   pub most : changed + length acted ≤ given
 
 -- WHAT A RUN LEFT: its history is legal and follows the scripts; the unfinished calls are the next of their callers, one each; nothing of the
--- device is lent, and it keeps the promise. It took steps that are afforded; and where the power was for a number of steps, the stop is kept.
+-- device is lent, and it keeps the promise. It took steps that are afforded; and where the power was for a number of steps, the stop is kept,
+-- outside POSIX mode.
 pub record IsRan (w : WorldView) (before after : Supply) (pm : List Cell) (history : List Item) (unfinished : List Unfinished) : Type 0 where
   pub legal : IsLegal w.start history
   pub scripted : Scripted w.scripts history
@@ -59,7 +61,7 @@ pub record IsRan (w : WorldView) (before after : Supply) (pm : List Cell) (histo
   pub given : after.given ≡ before.given
   pub later : before.taken ≤ after.taken
   pub afforded : (steps : ℕ) → after.taken ≡ before.taken + steps → Afforded steps history w.scripts w.start.mode
-  pub kept : (given : ℕ) → before.given ≡ Some given → KeepsStop w pm history unfinished given
+  pub kept : w.start.mode ≢ Mode.Posix → (given : ℕ) → before.given ≡ Some given → KeepsStop w pm history unfinished given
 
 -- SCHEDULED: so many events in this order, of the World and of the machine beside it, leave the history and these calls.
 pub record IsScheduled (w : WorldView) (order : Order) (events : ℕ) (history : List Item) (calls : List Unfinished) : Type 0 where

@@ -28,7 +28,7 @@ use Rattle.split_machine.specs.Events.{HasJobAt, IsAble, IsActed, IsToBegin, IsU
 -- ---- how a call began
 
 module _ (who : Who) (w new : WorldView) (out : OutView) (before after : Supply) (to : IsToBegin who w out) where
-  module _ (steps : Steps (most_of (next_of w who)) before after) where
+  module _ (steps : Steps (most_of w.start.mode (next_of w who)) before after) where
     pub acted_return : Returns who w new before after → IsActed who w out new out before after Acted.Event
     acted_return is = (call_returns who w new out before after to.can steps is, returns_beside who w new out before after to.can is, to.can.log)
 

@@ -2,6 +2,7 @@
 use Rattle.std.specs.Prelude.{◌≡◌, ◌≢◌, ◌⊎◌, ◌≤◌, ◌+◌, ◌*◌, ◌^◌, ℕ, zero, suc, Bool, true, false, cond, filter, List, [], ◌∷◌, ◌++◌, length, map, Option, Some, None, IfOk, IsSome, Ok, Err, Result, refl}
 use Rattle.std.proofs.Common.{arith, ap, ◌∙◌, sym, subst, inl, inr}
 use Rattle.std.proofs.lemmas.Option.{same_Some}
+use Rattle.posix_types.specs.declared.call.Mode.{Mode}
 use Rattle.posix_types.specs.declared.item.Item.{Item}
 use Rattle.posix_types.specs.Scripts.{Scripts}
 use Rattle.posix_types.specs.declared.call.Who.{Who}
@@ -164,14 +165,14 @@ record IsTaken (v : WorldView) (before after : Supply) : Type 0 where
 
 -- A stop is kept, whatever was left.
 abbrev AreKept : WorldView → Supply → List Cell → List Unfinished → Type 0
-AreKept v before pm unfinished = (given : ℕ) → before.given ≡ Some given → KeepsStop v pm v.history unfinished given
+AreKept v before pm unfinished = v.start.mode ≢ Mode.Posix → (given : ℕ) → before.given ≡ Some given → KeepsStop v pm v.history unfinished given
 
 -- where the power went, or it was cut
 taken_off : (v : WorldView) (before after : Supply) → AreFewActs v → IsPaidOff before after v → IsTaken v before after
 taken_off v before after few paid = record {
   given = paid.any.given;
   later = paid.any.later;
-  afforded = λ steps at. affords_lost v before after steps v.start.mode paid few at;
+  afforded = λ steps at. affords_lost v before after steps paid few at;
 }
 
 -- the calls that a test tells are some of those that are out
@@ -185,26 +186,26 @@ some_acted acts (p ∷ pending) last = by (acts p) (some_acted acts pending last
 
 -- those that acted took a step each
 kept_off : (v : WorldView) (out : OutView) (before after : Supply) (pm : List Cell) → PaysForAll before after v out → KeepsActed v (lines_in out.log) (filled_of out.jobs) pm → AreKept v before pm (calls_out v)
-kept_off v out before after pm paid keeps given some =
+kept_off v out before after pm paid keeps mode given some =
     let pays = paid given some in record {
       acted = calls_acted v pays.acted.acts;
       some = some_acted pays.acted.acts v.pending v.unfinished;
       promise = keeps pays.acted.acts pays.acted.tells;
       changed = pays.tree.changed;
-      each = pays.tree.each;
+      each = pays.tree.each mode;
       most = (let most = pays.tree.most in let few = pays.acted.few in omega (arith, most, few));
     }
 
 -- none is out
 kept_none : (v : WorldView) (before now : Supply) (jobs : List Held) (pm : List Cell) (unfinished : List Unfinished) → IsPaid before now v jobs → unfinished ≡ [] → KeepsPromise v.geometry pm v.start v.history unfinished
     → AreKept v before pm unfinished
-kept_none v before now jobs pm unfinished paid none promise given some =
+kept_none v before now jobs pm unfinished paid none promise mode given some =
     let kept = paid.tree given some in record {
       acted = unfinished;
       some = all_of unfinished;
       promise = promise;
       changed = kept.changed;
-      each = kept.each;
+      each = kept.each mode;
       most = (let most = kept.most in omega (arith, most, ap (λ (cs : List Unfinished). length cs) none));
     }
 
@@ -213,7 +214,7 @@ taken_whole : (v : WorldView) (out : OutView) (before now after : Supply) → Ar
 taken_whole v out before now after few paid complete steps = record {
   given = steps.given ∙ paid.any.given;
   later = (let one = paid.any.later in let then = steps.later in omega (arith, one, then));
-  afforded = λ n at. affords_whole v out before now after n v.start.mode paid complete few steps at;
+  afforded = λ n at. affords_whole v out before now after n paid complete few steps at;
 }
 
 -- WHAT IS SAID OF THE LAST WORLD IS SO OF THE FIRST.
@@ -230,7 +231,7 @@ ran w v before after same pm history unfinished left taken kept open_calls = rec
   later = taken.later;
   afforded = λ steps at. subst (λ (s : State). Afforded steps history w.scripts s.mode) same.start
       (subst (λ (s : Scripts). Afforded steps history s v.start.mode) same.scripts (subst (λ (items : List Item). Afforded steps items v.scripts v.start.mode) (sym left.history_is) (taken.afforded steps at)));
-  kept = λ given some. subst (λ (items : List Item). KeepsStop w pm items unfinished given) (sym left.history_is) (kept_first given (kept given some));
+  kept = λ mode given some. subst (λ (items : List Item). KeepsStop w pm items unfinished given) (sym left.history_is) (kept_first given (kept (λ posix. mode (sym (ap (λ (s : State). s.mode) same.start) ∙ posix)) given some));
 } where
   kept_first : (given : ℕ) → KeepsStop v pm v.history unfinished given → KeepsStop w pm v.history unfinished given
   kept_first given is = record {

@@ -82,10 +82,10 @@ own_idle who v idle = record {
 }
 
 pub begun_left : BegunMayLeave → (v : HandView) (who : Who) (w new : WorldView) (before after : Supply) (begun : Begun) → Knows w before v → IsIdle who v
-    → Steps (most_of (next_of w who)) before after → AreFewActs new → IsBegun who w new before after (Ok begun)
+    → Steps (most_of w.start.mode (next_of w who)) before after → AreFewActs new → IsBegun who w new before after (Ok begun)
     → MayLeave v w new before after × HasLooked v (next_hand v w new) (next_by begun)
 begun_left law v who w new before after begun knows idle steps few is =
-    law v w new before after begun knows (own_idle who v idle) (subst (λ (x : Who). Steps (most_of (next_of w x)) before after) (sym idle.who_is) steps) few
+    law v w new before after begun knows (own_idle who v idle) (subst (λ (x : Who). Steps (most_of w.start.mode (next_of w x)) before after) (sym idle.who_is) steps) few
     (subst (λ (x : Who). IsBegun x w new before after (Ok begun)) (sym idle.who_is) is)
 
 -- ---- a job ends

@@ -4,7 +4,8 @@ use Rattle.std.specs.Prelude.{nat_lt, IsSome}
 use Rattle.std.proofs.lemmas.Bool.{true≢false, ltb-false}
 use Rattle.command_line.specs.pm_model.declared.Cell.{Cell}
 use Rattle.command_line.specs.pm_model.Powers.{is_left, is_on, Supply}
-use Rattle.split_machine.specs.crash_spec.Permitted.{Permitted}
+use Rattle.split_machine.specs.crash_spec.Permitted.{Permitted, StronglyPermitted}
+use Rattle.split_machine.specs.crash_spec.StrongLaws.{Permitted-Strongly}
 use Rattle.split_machine.specs.crash_spec.RelationLaws.{Strict-idle, Sync-idle}
 use Rattle.command_line.specs.layout_model.Places.{Geometry}
 use Rattle.posix_types.specs.declared.call.Mode.{Mode}
@@ -69,7 +70,7 @@ one_tree Mode.Sync other s history shown permitted = Sync-idle s history shown p
 one_tree Mode.Posix other s history shown permitted = absurd (other refl)
 
 module _ (g : Geometry) (task : Task) (options : Options) (w : WorldView) (before after : Supply) (pm : List Cell) (history : List Item) (unfinished : List Unfinished) (left : List TreeEntry) (on : IsWorldOn g task w) (power : before ≡ record { given = options.stop; taken = 0 }) (all : LeadsReaches) (ran : machine.IsRan w before after pm history unfinished)
-    (permits : (calls : List Unfinished) → IsLeftAs g pm w.start history calls → Permitted w.start.mode w.start history calls left) where
+    (permits : (calls : List Unfinished) → IsLeftAs g pm w.start history calls → StronglyPermitted w.start.mode w.start history calls left) where
   legal : IsLegal (beginning task) history
   legal = subst (λ s. IsLegal s history) on.start ran.legal
 
@@ -83,18 +84,24 @@ module _ (g : Geometry) (task : Task) (options : Options) (w : WorldView) (befor
   same_mode : (beginning task).mode ≡ task.mode
   same_mode = (has_setting task.image task.shape task.mode).1
 
-  -- the tree is permitted with calls for which the promise is kept
+  -- the tree is permitted with calls for which the promise is kept, by the stronger rule for bytes too
+  strongly_with : (calls : List Unfinished) → IsLeftAs g pm w.start history calls → StronglyPermitted task.mode (beginning task) history calls left
+  strongly_with calls is =
+      subst (λ (m : Mode). StronglyPermitted m (beginning task) history calls left) same_mode
+      (subst (λ (s : State). StronglyPermitted s.mode s history calls left) on.start (permits calls is))
+
   permitted_with : (calls : List Unfinished) → IsLeftAs g pm w.start history calls → Permitted task.mode (beginning task) history calls left
-  permitted_with calls is =
-      subst (λ (m : Mode). Permitted m (beginning task) history calls left) same_mode
-      (subst (λ (s : State). Permitted s.mode s history calls left) on.start (permits calls is))
+  permitted_with calls is = Permitted-Strongly task.mode (beginning task) history calls left (strongly_with calls is)
+
+  strongly : StronglyPermitted task.mode (beginning task) history unfinished left
+  strongly = strongly_with unfinished (left_as g task w before after pm history unfinished on ran)
 
   permitted : Permitted task.mode (beginning task) history unfinished left
-  permitted = permitted_with unfinished (left_as g task w before after pm history unfinished on ran)
+  permitted = Permitted-Strongly task.mode (beginning task) history unfinished left strongly
 
   kept : task.mode ≢ Mode.Posix → (steps : ℕ) → options.stop ≡ Some steps → KeepsStop task history unfinished left steps
   kept other steps some =
-      let is = ran.kept steps (ap (λ (p : Supply). p.given) power ∙ some) in
+      let is = ran.kept (λ posix. other (sym same_mode ∙ (sym (ap (λ (s : State). s.mode) on.start) ∙ posix))) steps (ap (λ (p : Supply). p.given) power ∙ some) in
       record {
         acted = is.acted;
         some = is.some;
@@ -132,7 +139,7 @@ module _ (g : Geometry) (task : Task) (options : Options) (w : WorldView) (befor
   ]
 
   ended_so : (course : IsScheduled task options history unfinished) → IsWhole task history unfinished left ⊎ (IsStopped task options history ⊎ IsCut options course.events course.calls unfinished) → IsRun task options history unfinished left
-  ended_so course ended = record { legal = legal; scripted = scripted; open_calls = open_calls; permitted = permitted; course = course; ended = ended; kept = kept }
+  ended_so course ended = record { legal = legal; scripted = scripted; open_calls = open_calls; permitted = permitted; strongly = λ posix. subst (λ (m : Mode). StronglyPermitted m (beginning task) history unfinished left) posix strongly; course = course; ended = ended; kept = kept }
 
   -- all calls returned
   pub ran_whole : IsComplete w.scripts history → unfinished ≡ [] → (events : ℕ) → machine.IsBelow events options.cut → machine.IsScheduled w options.order events history [] → IsRun task options history unfinished left
@@ -183,13 +190,13 @@ pub ran_ended : (g : Geometry) (task : Task) (options : Options) (w : WorldView)
     → IsReadBack g ended history unfinished left → IsRun task options history unfinished left
 ran_ended g task options w before after (Ended.Whole pm told) history unfinished left on power all is back =
     let permits = λ (calls : List Unfinished) (found : IsLeftAs g pm w.start told.items calls).
-    subst (λ (h : List Item). Permitted w.start.mode w.start h calls left) back.calls.0 (back.permitted w.start calls found) in
+    subst (λ (h : List Item). StronglyPermitted w.start.mode w.start h calls left) back.calls.0 (back.permitted w.start calls found) in
     subst (λ (h : List Item). IsRun task options h unfinished left) (sym back.calls.0)
     (subst (λ (calls : List Unfinished). IsRun task options told.items calls left) (sym back.calls.1)
     (ran_whole g task options w before after pm told.items [] left on power all is.ran permits is.complete refl is.events is.below is.scheduled))
 ran_ended g task options w before after (Ended.Lost crashed) history unfinished left on power all is back =
     let permits = λ (calls : List Unfinished) (found : IsLeftAs g crashed.pm w.start crashed.history.items calls).
-    subst (λ (h : List Item). Permitted w.start.mode w.start h calls left) back.calls.0 (back.permitted w.start calls found) in
+    subst (λ (h : List Item). StronglyPermitted w.start.mode w.start h calls left) back.calls.0 (back.permitted w.start calls found) in
     subst (λ (h : List Item). IsRun task options h unfinished left) (sym back.calls.0)
     (subst (λ (calls : List Unfinished). IsRun task options crashed.history.items calls left) (sym back.calls.1)
     (ran_lost g task options w before after crashed.pm crashed.history.items crashed.unfinished.items left on power all is.ran permits is.lost))

@@ -14,7 +14,7 @@ use Rattle.split_machine.specs.image_model.Honest.{IsHonest}
 use Rattle.split_machine.specs.image_model.Rules.{geometry_of, IsChecked, IsWholeBlocks}
 use Rattle.split_machine.specs.k_check.Crashes.{IsCrashImage}
 use Rattle.split_machine.specs.k_split_model.View.{View}
-use Rattle.split_machine.specs.crash_spec.Permitted.{Permitted}
+use Rattle.split_machine.specs.crash_spec.Permitted.{StronglyPermitted}
 use Rattle.split_machine.specs.Mounts.{IsLeft, IsMounted}
 use Rattle.pm_lines.specs.declared.choices.Choice.{Choice}
 use Rattle.posix_types.specs.declared.item.Item.{Item}
@@ -128,7 +128,7 @@ module _ (g : Geometry) (last : List Cell) (numbers : geometry_of (words_of last
   shown_first image goes = subst (λ c. IsTreeOfContent c tree) (fun_ext goes.same) shown
 
   module _ (choice : Choice) (d crashed : List Cell) (is : IsCrashed g choice d crashed) where
-    pub left-permitted : (start : State) (history : List Item) (unfinished : List Unfinished) → IsLeftAs g d start history unfinished → GoesOn g (words_of crashed) last → Permitted start.mode start history unfinished tree
+    pub left-permitted : (start : State) (history : List Item) (unfinished : List Unfinished) → IsLeftAs g d start history unfinished → GoesOn g (words_of crashed) last → StronglyPermitted start.mode start history unfinished tree
     left-permitted start history unfinished left goes = kept.permitted tree (shown_first (words_of crashed) goes) where
       kept : IsKept g start history unfinished (words_of crashed)
       kept = left.promise (words_of crashed) is.is_chosen.is_image is.is_chosen.is_honest

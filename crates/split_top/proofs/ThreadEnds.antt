@@ -12,7 +12,8 @@ use Rattle.posix_types.specs.declared.item.Item.{Item}
 use Rattle.posix_types.specs.declared.tree.TreeEntry.{TreeEntry}
 use Rattle.posix_types.specs.Scripts.{Scripts}
 use Rattle.split_machine.specs.run_laws.Runs as machine
-use Rattle.split_machine.specs.crash_spec.Permitted.{Permitted}
+use Rattle.split_machine.specs.crash_spec.Permitted.{Permitted, StronglyPermitted}
+use Rattle.split_machine.specs.crash_spec.StrongLaws.{Permitted-Strongly}
 use Rattle.split_machine.specs.world_image_laws.Promised.{KeepsPromise}
 use Rattle.split_machine.specs.world_image_laws.Starts.{has_setting}
 use Rattle.split_machine.specs.world_view_laws.Views.{WorldView}
@@ -53,14 +54,17 @@ module _ (g : Geometry) (task : Task) (w : WorldView) (on : IsWorldOn g task w) 
   thread_left stop (Ended.Whole pm history) is = left_ran pm history.items [] is.ran
   thread_left stop (Ended.Lost crashed) is = left_ran crashed.pm crashed.history.items crashed.unfinished.items is.ran
 
-  module _ (options : Options) (history : List Item) (unfinished : List Unfinished) (left : List TreeEntry) (permits : Permitted w.start.mode w.start history unfinished left) where
+  module _ (options : Options) (history : List Item) (unfinished : List Unfinished) (left : List TreeEntry) (permits : StronglyPermitted w.start.mode w.start history unfinished left) where
     same_mode : (beginning task).mode ≡ task.mode
     same_mode = (has_setting task.image task.shape task.mode).1
 
+    strongly : StronglyPermitted task.mode (beginning task) history unfinished left
+    strongly =
+        subst (λ (m : Mode). StronglyPermitted m (beginning task) history unfinished left) same_mode
+        (subst (λ (s : State). StronglyPermitted s.mode s history unfinished left) on.start permits)
+
     permitted : Permitted task.mode (beginning task) history unfinished left
-    permitted =
-        subst (λ (m : Mode). Permitted m (beginning task) history unfinished left) same_mode
-        (subst (λ (s : State). Permitted s.mode s history unfinished left) on.start permits)
+    permitted = Permitted-Strongly task.mode (beginning task) history unfinished left strongly
 
     ran_so : (pm : List Cell) → IsRanByThreads w pm history unfinished → IsWhole task history unfinished left ⊎ IsStoppedByThreads options history → IsThreadRun task options history unfinished left
     ran_so pm ran ended = record {
@@ -68,6 +72,7 @@ module _ (g : Geometry) (task : Task) (w : WorldView) (on : IsWorldOn g task w) 
       scripted = subst (λ (s : Scripts). Scripted s history) on.scripts_are ran.scripted;
       open_calls = subst (λ (s : Scripts). AreUnfinished s history unfinished) on.scripts_are ran.open_calls;
       permitted = permitted;
+      strongly = λ posix. subst (λ (m : Mode). StronglyPermitted m (beginning task) history unfinished left) posix strongly;
       ended = ended;
     }
 
@@ -89,11 +94,11 @@ module _ (g : Geometry) (task : Task) (w : WorldView) (on : IsWorldOn g task w) 
       let ran = subst (λ (h : List Item). IsRanByThreads w pm h unfinished) (sym back.calls.0) (subst (λ (calls : List Unfinished). IsRanByThreads w pm told.items calls) (sym back.calls.1) is.ran) in
       let complete = subst (λ (h : List Item). IsComplete w.scripts h) (sym back.calls.0) is.complete in
       let found = thread_left options.stop (Ended.Whole pm told) is in
-      let permits = subst (λ (calls : List Unfinished). Permitted w.start.mode w.start history calls left) (sym back.calls.1) (back.permitted w.start [] found) in
+      let permits = subst (λ (calls : List Unfinished). StronglyPermitted w.start.mode w.start history calls left) (sym back.calls.1) (back.permitted w.start [] found) in
       whole_so options history unfinished left permits pm back.calls.1 ran complete
   thread_ran options (Ended.Lost crashed) history unfinished left is back =
       let lost = subst (λ (h : List Item). IsLostByThreads w options.stop crashed.pm h unfinished) (sym back.calls.0)
       (subst (λ (calls : List Unfinished). IsLostByThreads w options.stop crashed.pm crashed.history.items calls) (sym back.calls.1) is) in
       let found = thread_left options.stop (Ended.Lost crashed) is in
-      let permits = subst (λ (calls : List Unfinished). Permitted w.start.mode w.start history calls left) (sym back.calls.1) (back.permitted w.start crashed.unfinished.items found) in
+      let permits = subst (λ (calls : List Unfinished). StronglyPermitted w.start.mode w.start history calls left) (sym back.calls.1) (back.permitted w.start crashed.unfinished.items found) in
       lost_so options history unfinished left permits crashed.pm lost

@@ -14,7 +14,7 @@ use Rattle.posix_types.specs.declared.item.Item.{Item}
 use Rattle.posix_types.specs.declared.tree.TreeEntry.{TreeEntry}
 use Rattle.command_line.specs.posix_spec.Run.{Unfinished}
 use Rattle.command_line.specs.posix_spec.State.{State}
-use Rattle.split_machine.specs.crash_spec.Permitted.{Permitted}
+use Rattle.split_machine.specs.crash_spec.Permitted.{StronglyPermitted}
 use Rattle.split_machine.specs.world_image_laws.Promised.{KeepsPromise}
 use Rattle.split_machine.specs.world_model.Shown.{IsTreeOfContent}
 use Rattle.split_threads.specs.world_parts.declared.outcomes.Ended.{Ended}
@@ -42,11 +42,11 @@ abbrev pub AreCallsOf : Ended → List Item → List Unfinished → Type 0
 AreCallsOf (Ended.Whole pm ran) history unfinished = (history ≡ ran.items) × (unfinished ≡ [])
 AreCallsOf (Ended.Lost crashed) history unfinished = (history ≡ crashed.history.items) × (unfinished ≡ crashed.unfinished.items)
 
--- WHAT IS READ BACK of a run that ended: its calls, and a tree that the mode permits for the history with any calls for which the device
--- keeps the promise.
+-- WHAT IS READ BACK of a run that ended: its calls, and a tree that the mode permits, by the stronger rule for bytes too, for the history
+-- with any calls for which the device keeps the promise.
 pub record IsReadBack (g : Geometry) (ended : Ended) (history : List Item) (unfinished : List Unfinished) (left : List TreeEntry) : Type 0 where
   pub calls : AreCallsOf ended history unfinished
-  pub permitted : (start : State) (calls : List Unfinished) → IsEndedWith g start ended calls → Permitted start.mode start history calls left
+  pub permitted : (start : State) (calls : List Unfinished) → IsEndedWith g start ended calls → StronglyPermitted start.mode start history calls left
 
 -- WHAT IS FOUND on a device: the choice is applied to it, what that leaves is mounted once for each number, and the tree is that of the
 -- content of the device that goes on.

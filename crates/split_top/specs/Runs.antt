@@ -14,6 +14,7 @@ use Rattle.command_line.specs.posix_spec.Tree.{start, tree}
 use Rattle.command_line.specs.posix_spec.Unfinished.{AreUnfinished}
 use Rattle.split_machine.specs.crash_spec.Machine.{Setting}
 use Rattle.split_machine.specs.crash_spec.Permitted.{Permitted}
+use Rattle.split_machine.specs.crash_spec.Posix.{StrongPosix}
 use Rattle.split_machine.specs.crash_spec.Schedules.{Course, Scheduled}
 use Rattle.split_machine.specs.run_laws.Runs.{IsBegun}
 use Rattle.split_machine.specs.run_laws.Acted.{AreSomeOf}
@@ -89,14 +90,15 @@ pub record KeepsStop (task : Task) (history : List Item) (unfinished : List Unfi
   pub most : changed + length acted ≤ steps
 
 -- A RUN ended with this history and these unfinished calls, and left this tree. The history is legal and follows the
--- scripts, the unfinished calls are next calls of theirs, both are scheduled, and the mode permits the tree. It ended whole, or by a
--- stop, or by a cut; and outside POSIX mode a stop is kept.
+-- scripts, the unfinished calls are next calls of theirs, both are scheduled, and the mode permits the tree, POSIX mode by the stronger
+-- rule for bytes too. It ended whole, or by a stop, or by a cut; and outside POSIX mode a stop is kept.
 pub record IsRun (task : Task) (options : Options) (history : List Item) (unfinished : List Unfinished)
     (left : List TreeEntry) : Type 0 where
   pub legal : IsLegal (beginning task) history
   pub scripted : Scripted task.scripts history
   pub open_calls : AreUnfinished task.scripts history unfinished
   pub permitted : Permitted task.mode (beginning task) history unfinished left
+  pub strongly : task.mode ≡ Mode.Posix → StrongPosix (beginning task) history unfinished left
   pub course : IsScheduled task options history unfinished
   pub ended : IsWhole task history unfinished left ⊎ (IsStopped task options history ⊎ IsCut options course.events course.calls unfinished)
   pub kept : task.mode ≢ Mode.Posix → (steps : ℕ) → options.stop ≡ Some steps → KeepsStop task history unfinished left steps
@@ -109,13 +111,14 @@ pub record IsStoppedByThreads (options : Options) (history : List Item) : Type 0
   pub afforded : steps ≤ 2 ^ 31 * (length history + 2)
 
 -- A RUN BY THREADS: as of any run the history is legal and follows the scripts, the unfinished calls are next calls of theirs, and the mode
--- permits the tree. It ended whole, or by a stop. Which of the histories it is, is the threads' choice.
+-- permits the tree, POSIX mode by the stronger rule for bytes too. It ended whole, or by a stop. Which of the histories it is, is the threads' choice.
 pub record IsThreadRun (task : Task) (options : Options) (history : List Item) (unfinished : List Unfinished)
     (left : List TreeEntry) : Type 0 where
   pub legal : IsLegal (beginning task) history
   pub scripted : Scripted task.scripts history
   pub open_calls : AreUnfinished task.scripts history unfinished
   pub permitted : Permitted task.mode (beginning task) history unfinished left
+  pub strongly : task.mode ≡ Mode.Posix → StrongPosix (beginning task) history unfinished left
   pub ended : IsWhole task history unfinished left ⊎ IsStoppedByThreads options history
 
 -- A RUN, by events or by threads

@@ -5,7 +5,7 @@ ghost use Rattle.command_line.specs.pm_model.Images.{words_of};
 ghost use Rattle.command_line.specs.pm_model.Words.{word_at};
 ghost use Rattle.command_line.specs.Seen.{seen_options};
 ghost use Rattle.split_machine.specs.image_model.Rules.{geometry_of};
-ghost use Rattle.split_machine.specs.crash_spec.Permitted.{Permitted};
+ghost use Rattle.split_machine.specs.crash_spec.Permitted.{StronglyPermitted};
 ghost use Rattle.command_line.specs.posix_spec.Run.{Unfinished};
 ghost use Rattle.command_line.specs.posix_spec.State.{State};
 ghost use Rattle.posix_types.specs.declared.item.Item as items;
@@ -75,7 +75,7 @@ fn left_on(
 ) -> Result<Left, AllocError>
     requires { (start : State) × (history : List items.Item) × (unfinished : List Unfinished) × IsLeftAs geometry.now pm.now start history unfinished }
     ensures found { IfOk result (λ left. IsFoundBy geometry.now options.now.choice (seen_options options.now).again pm.now left.tree) }
-    ensures permitted { IfOk result (λ left. (start : State) (history : List items.Item) (unfinished : List Unfinished) → IsLeftAs geometry.now pm.now start history unfinished → Permitted start.mode start history unfinished left.tree) }
+    ensures permitted { IfOk result (λ left. (start : State) (history : List items.Item) (unfinished : List Unfinished) → IsLeftAs geometry.now pm.now start history unfinished → StronglyPermitted start.mode start history unfinished left.tree) }
     ensures single { IfOk result (λ left. AllSingle left.pm) }
     ensures mounted { IfOk result (λ left. (kept : List ℕ) → IsDeviceOf kept left.pm → IsMounted kept left.tree) }
     ensures numbers { IfOk result (λ left. (kept : List ℕ) → IsDeviceOf kept left.pm → geometry_of (word_at kept) ≡ geometry.now) }

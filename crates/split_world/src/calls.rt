@@ -52,7 +52,7 @@ impl World {
         requires out { self.old.lines_out ≡ true }
         requires none { HasNone self.old who }
         requires set_up { IsSetUp self.old.scripts self.old.history who }
-        ensures steps { Steps (most_of (next_of self.old who)) power.old power.new }
+        ensures steps { Steps (most_of self.old.start.mode (next_of self.old who)) power.old power.new }
         ensures begun { IsBegun who self.old self.new power.old power.new result }
     {
         if self.parts.lost {

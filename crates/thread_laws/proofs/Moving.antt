@@ -9,10 +9,11 @@ use Rattle.round_laws.specs.world_view_laws.in_flight.Costs.{most_of, most_of_ca
 use Rattle.round_laws.specs.world_view_laws.list_laws.Filters.{filter-more}
 use Rattle.round_laws.specs.world_view_laws.list_laws.Members.{In}
 use Rattle.round_laws.specs.world_view_laws.posix_types.declared.call.Call.{Call}
+use Rattle.round_laws.specs.world_view_laws.posix_types.declared.call.Mode.{Mode}
 use Rattle.round_laws.specs.world_view_laws.posix_types.declared.call.Who.{Who}
 use Rattle.round_laws.specs.world_view_laws.posix_types.declared.item.Item.{Item}
 use Rattle.round_laws.specs.world_view_laws.posix_tables.Open.{same_who}
-use Rattle.round_laws.specs.world_view_laws.posix_spec.Afforded.{moves_data}
+use Rattle.round_laws.specs.world_view_laws.posix_spec.Afforded.{is_posix, moves_data}
 use Rattle.round_laws.specs.world_view_laws.posix_spec.Scripted.{IsSetUp, items_of}
 use Rattle.round_laws.specs.world_view_laws.live_model.Jobs.{SpellCall, without}
 use Rattle.round_laws.specs.world_view_laws.live_model.Standing.{JobOut}
@@ -240,17 +241,17 @@ stops_found v w power knows idle is =
 
 -- ---- a call that began
 
-small : (o : Option Call) → most_of o ≤ 2 ^ 26
-small None = omega arith
-small (Some call) = by (moves_data call) where
+small : (mode : Mode) (o : Option Call) → most_of mode o ≤ 2 ^ 26
+small mode None = omega arith
+small mode (Some call) = by (is_posix mode || moves_data call) where
   by : (b : Bool) → (if b then 2 ^ 26 else 512) ≤ 2 ^ 26
   by true = omega arith
   by false = omega arith
 
-enough_steps : (o : Option Call) (before after : Supply) → Steps (most_of o) before after → Steps (2 ^ 26) before after
-enough_steps o before after steps = record { given = steps.given; on_before = steps.on_before; later = steps.later; bound = omega (arith, steps.bound, small o) }
+enough_steps : (mode : Mode) (o : Option Call) (before after : Supply) → Steps (most_of mode o) before after → Steps (2 ^ 26) before after
+enough_steps mode o before after steps = record { given = steps.given; on_before = steps.on_before; later = steps.later; bound = omega (arith, steps.bound, small mode o) }
 
-module _ (v : HandView) (old new : WorldView) (before after : Supply) (knows : Knows old before v) (idle : IsIdle v.who v) (steps : Steps (most_of (next_of old v.who)) before after)
+module _ (v : HandView) (old new : WorldView) (before after : Supply) (knows : Knows old before v) (idle : IsIdle v.who v) (steps : Steps (most_of old.start.mode (next_of old v.who)) before after)
     (few : AreFewActs new) where
   none : HasNone old v.who
   none = (idle_may_begin old before v v.who knows idle).0
@@ -259,7 +260,7 @@ module _ (v : HandView) (old new : WorldView) (before after : Supply) (knows : K
   done = (idle_may_begin old before v v.who knows idle).1
 
   whole : Steps (2 ^ 26) before after
-  whole = enough_steps (next_of old v.who) before after steps
+  whole = enough_steps old.start.mode (next_of old v.who) before after steps
 
   same_none : new.pending ≡ old.pending → HasNone new v.who
   same_none same = subst (λ (ps : List JobOut). (p : JobOut) → In p ps → p.who ≢ v.who) (sym same) none

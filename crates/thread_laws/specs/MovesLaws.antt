@@ -63,7 +63,7 @@ CutKeepsJob = (v : HandView) (job cut : JobView) (power : Supply) → HasJob v j
 -- A CALL THAT BEGAN may be left, and this is the view then.
 abbrev pub BegunMayLeave : Type 0
 BegunMayLeave =
-    (v : HandView) (old new : WorldView) (before after : Supply) (begun : Begun) → Knows old before v → IsIdle v.who v → Steps (most_of (next_of old v.who)) before after → AreFewActs new
+    (v : HandView) (old new : WorldView) (before after : Supply) (begun : Begun) → Knows old before v → IsIdle v.who v → Steps (most_of old.start.mode (next_of old v.who)) before after → AreFewActs new
     → IsBegun v.who old new before after (Ok begun) → MayLeave v old new before after × HasLooked v (next_hand v old new) (next_by begun)
 
 -- A JOB THAT WAS GIVEN TO `finish` likewise.

@@ -1,18 +1,19 @@
 -- What is staged of the file of a call is published, and then the call goes on: how it began, from before the publishing on.
-use Rattle.std.specs.Prelude.{◌≡◌, ◌≤◌, ◌+◌, ◌^◌, ℕ, Bool, true, false, if◌then◌else◌, List, Option, None, Some, IsSome, unwrap_or, Result, Ok, Err, refl}
+use Rattle.std.specs.Prelude.{◌||◌, ◌≡◌, ◌≤◌, ◌+◌, ◌^◌, ℕ, Bool, true, false, if◌then◌else◌, List, Option, None, Some, IsSome, unwrap_or, Result, Ok, Err, refl}
 use Rattle.std.proofs.Common.{arith, ap, ◌∙◌, sym, subst, inl, inr}
 use Rattle.pm_lines.specs.pm_model.PowerLaws.{Steps-then}
 use Rattle.pm_lines.specs.pm_model.Powers.{Steps, Supply}
 use Rattle.world_parts.specs.k_journal.Commits.{TakesAStep}
 use Rattle.world_parts.specs.list_laws.Members.{In}
 use Rattle.posix_types.specs.declared.call.Call.{Call}
+use Rattle.posix_types.specs.declared.call.Mode.{Mode}
 use Rattle.posix_types.specs.declared.call.Who.{Who}
 use Rattle.posix_types.specs.declared.handle.Handle.{Handle}
 use Rattle.std.specs.Option.{option_map_or}
 use Rattle.world_parts.specs.crash_spec.Busy.{is_logged, is_logged_put}
 use Rattle.world_parts.specs.posix_tables.Open.{opened, Tables}
 use Rattle.world_parts.specs.in_flight.Costs.{most_of_call}
-use Rattle.world_parts.specs.posix_spec.Afforded.{moves_data}
+use Rattle.world_parts.specs.posix_spec.Afforded.{is_posix, moves_data}
 use Rattle.world_parts.specs.posix_spec.Put.{Put, put_by}
 use Rattle.world_parts.specs.posix_spec.State.{State}
 use Rattle.world_parts.proofs.world_view_laws_proofs.Holes.{no_holes, unput_holes, unput_in_place}
@@ -110,7 +111,7 @@ module _ (w : WorldView) (d : Disk) (who : Who) (call : Call) (begins : Begins w
       in_place = λ mode. unput_in_place w who is.call new.disk (puts_none is.call is.begins);
       stay = stay_back is.stay;
       on = is.on;
-      spent = elim is.spent [ inl same ↦ inl same | inr step ↦ inr (steps step) ];
+      spent = λ mode. elim (is.spent mode) [ inl same ↦ inl same | inr step ↦ inr (steps step) ];
     }
 
     loses_back : (after : Supply) → LosesCall who middle new after → LosesCall who w new after
@@ -160,20 +161,29 @@ both_fit false true moves = omega arith
 both_fit false false moves = omega arith
 both_fit true false moves = (let never : false ≡ true = moves refl in cc)
 
-fits : (call : Call) → (if publishes_by call then 2 ^ 25 + 2 ^ 15 else 0) + (if moves_data call then 2 ^ 16 else 512) ≤ most_of_call call
-fits call = both_fit (publishes_by call) (moves_data call) (publishing_moves call)
+-- in POSIX mode as many as for a call that moves data
+by_mode : (posix m : Bool) → (if m then 2 ^ 26 else 512) ≤ (if posix || m then 2 ^ 26 else 512)
+by_mode true true = omega arith
+by_mode true false = omega arith
+by_mode false m = omega arith
 
-pub both_steps : (call same : Call) (first before after : Supply) → same ≡ call → Steps (if publishes_by call then 2 ^ 25 + 2 ^ 15 else 0) first before
-    → Steps (if moves_data same then 2 ^ 16 else 512) before after → Steps (most_of_call call) first after
-both_steps call same first before after is published ran =
+fits : (mode : Mode) (call : Call) → (if publishes_by call then 2 ^ 25 + 2 ^ 15 else 0) + (if moves_data call then 2 ^ 16 else 512) ≤ most_of_call mode call
+fits mode call =
+    let one = both_fit (publishes_by call) (moves_data call) (publishing_moves call) in
+    let most = by_mode (is_posix mode) (moves_data call) in
+    omega (arith, one, most)
+
+pub both_steps : (mode : Mode) (call same : Call) (first before after : Supply) → same ≡ call → Steps (if publishes_by call then 2 ^ 25 + 2 ^ 15 else 0) first before
+    → Steps (if moves_data same then 2 ^ 16 else 512) before after → Steps (most_of_call mode call) first after
+both_steps mode call same first before after is published ran =
     let next : Steps (if moves_data call then 2 ^ 16 else 512) before after = subst (λ (c : Call). Steps (if moves_data c then 2 ^ 16 else 512) before after) is ran in
     let both = Steps-then (if publishes_by call then 2 ^ 25 + 2 ^ 15 else 0) (if moves_data call then 2 ^ 16 else 512) first before after published next in
-    let most = fits call in
+    let most = fits mode call in
     record { given = both.given; on_before = both.on_before; later = both.later; bound = omega (arith, both.bound, most) }
 
-pub first_steps : (call : Call) (first after : Supply) → Steps (if publishes_by call then 2 ^ 25 + 2 ^ 15 else 0) first after → Steps (most_of_call call) first after
-first_steps call first after published =
-    let most = fits call in
+pub first_steps : (mode : Mode) (call : Call) (first after : Supply) → Steps (if publishes_by call then 2 ^ 25 + 2 ^ 15 else 0) first after → Steps (most_of_call mode call) first after
+first_steps mode call first after published =
+    let most = fits mode call in
     record { given = published.given; on_before = published.on_before; later = published.later; bound = omega (arith, published.bound, most) }
 
 -- ---- the steps of a write
@@ -182,8 +192,9 @@ put_moves : (h : Handle) (at : Option ℕ) (x : List ℕ) → moves_data (call_o
 put_moves h None x = refl
 put_moves h (Some place) x = refl
 
-pub put_steps : (h : Handle) (at : Option ℕ) (x : List ℕ) (call : Call) (before after : Supply) → call ≡ call_of h at x → Steps (2 ^ 21) before after → Steps (most_of_call call) before after
-put_steps h at x call before after is steps =
+pub put_steps : (mode : Mode) (h : Handle) (at : Option ℕ) (x : List ℕ) (call : Call) (before after : Supply) → call ≡ call_of h at x → Steps (2 ^ 21) before after → Steps (most_of_call mode call) before after
+put_steps mode h at x call before after is steps =
     let moves : moves_data call ≡ true = ap moves_data is ∙ put_moves h at x in
-    let most : most_of_call call ≡ 2 ^ 26 = ap (λ (b : Bool). if b then 2 ^ 26 else 512) moves in
-    record { given = steps.given; on_before = steps.on_before; later = steps.later; bound = omega (arith, steps.bound, most) }
+    let most : (if moves_data call then 2 ^ 26 else 512) ≡ 2 ^ 26 = ap (λ (b : Bool). if b then 2 ^ 26 else 512) moves in
+    let least = by_mode (is_posix mode) (moves_data call) in
+    record { given = steps.given; on_before = steps.on_before; later = steps.later; bound = omega (arith, steps.bound, most, least) }

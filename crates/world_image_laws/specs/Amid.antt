@@ -11,7 +11,7 @@ use Rattle.world_step_laws.specs.commute_laws.crash_spec.Sync.{SyncFrom}
 use Rattle.world_step_laws.specs.commute_laws.Needs as flying
 use Rattle.world_step_laws.specs.commute_laws.Needs.{AreInFlight, Flight, IsApart}
 use Rattle.world_step_laws.specs.commute_laws.posix_laws.Views.{need_of}
-use Rattle.world_step_laws.specs.commute_laws.crash_spec.Permitted.{Permitted}
+use Rattle.world_step_laws.specs.commute_laws.crash_spec.Permitted.{StronglyPermitted}
 use Rattle.world_step_laws.specs.world_model.Promise.{sync_promise}
 use Rattle.world_step_laws.specs.commute_laws.Orders.{AreTwoEach}
 use Rattle.world_step_laws.specs.world_model.Jobs.{Job, unfinished_call}
@@ -44,7 +44,7 @@ flying_in_log s numbers (Some slot ∷ slots) (j ∷ jobs) on = (on.0, flying_in
 pub kept_part_among : KeepsPartAmong
 kept_part_among v claims a b slots numbers s f bytes count image start history sync state flies part shows =
     kept_by v claims some numbers (part_of s f bytes) count image start history (calls_among slots a f.begun b) shows
-    (λ left tree_is. subst (λ m. Permitted m start history (calls_among slots a f.begun b) left) (sym sync) (permitted left
+    (λ left tree_is. subst (λ m. StronglyPermitted m start history (calls_among slots a f.begun b) left) (sym sync) (permitted left
     (sync_promise v claims some (journaled image) (journaled image) numbers (part_of s f bytes) [] shows.landed left shows.world.valid (shown v claims some numbers (part_of s f bytes) count image shows) tree_is)))
   where
     some : List Job

@@ -22,7 +22,7 @@ use Rattle.world_step_laws.specs.commute_laws.posix_types.declared.call.Mode.{Mo
 use Rattle.world_step_laws.specs.commute_laws.posix_types.declared.item.Item.{Item}
 use Rattle.world_step_laws.specs.commute_laws.posix_spec.Run.{after_call, Unfinished, run}
 use Rattle.world_step_laws.specs.commute_laws.posix_spec.State.{room, State}
-use Rattle.world_step_laws.specs.commute_laws.crash_spec.Permitted.{Permitted}
+use Rattle.world_step_laws.specs.commute_laws.crash_spec.Permitted.{StronglyPermitted}
 use Rattle.world_step_laws.specs.commute_laws.posix_types.declared.tree.TreeEntry.{TreeEntry}
 use Rattle.world_step_laws.specs.commute_laws.Commutes.{takes}
 use Rattle.world_step_laws.specs.commute_laws.Needs.{AreInFlight, Flight, LetsAllBe}
@@ -256,13 +256,13 @@ kept_leading v claims jobs slots numbers s count image start history c mode foun
       led m same left from =
           subst (λ x. UnfinishedFrom x (run start history) (calls_in_log slots jobs ++ c ∷ []) left) same (leads slots left (subst (λ x. UnfinishedFrom x s (calls_in_log slots jobs) left) (sym same) from))
 
-      by : (m : Mode) → start.mode ≡ m → m ≢ Mode.Posix → (left : List TreeEntry) → IsTreeOfContent (content_shown v (journaled image)) left → Permitted start.mode start history (calls_in_log slots jobs ++ c ∷ []) left
+      by : (m : Mode) → start.mode ≡ m → m ≢ Mode.Posix → (left : List TreeEntry) → IsTreeOfContent (content_shown v (journaled image)) left → StronglyPermitted start.mode start history (calls_in_log slots jobs ++ c ∷ []) left
       by Mode.Strict same other left tree_is =
-          subst (λ m. Permitted m start history (calls_in_log slots jobs ++ c ∷ []) left) (sym same)
+          subst (λ m. StronglyPermitted m start history (calls_in_log slots jobs ++ c ∷ []) left) (sym same)
           (led Mode.Strict same left
           (strict_promise v claims (jobs_in_log slots jobs) (journaled image) (journaled image) numbers s [] is.landed left (whole_in_log slots jobs (found same)) is.world.valid (shown v claims (jobs_in_log slots jobs) numbers s count image is) tree_is))
       by Mode.Sync same other left tree_is =
-          subst (λ m. Permitted m start history (calls_in_log slots jobs ++ c ∷ []) left) (sym same)
+          subst (λ m. StronglyPermitted m start history (calls_in_log slots jobs ++ c ∷ []) left) (sym same)
           (led Mode.Sync same left
           (sync_promise v claims (jobs_in_log slots jobs) (journaled image) (journaled image) numbers s [] is.landed left is.world.valid (shown v claims (jobs_in_log slots jobs) numbers s count image is) tree_is))
       by Mode.Posix same other left tree_is = absurd (other refl)

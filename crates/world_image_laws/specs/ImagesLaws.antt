@@ -34,7 +34,7 @@ use Rattle.world_step_laws.specs.world_model.posix_spec.Run.{after_call, Unfinis
 use Rattle.world_step_laws.specs.world_model.posix_spec.State.{space, State, unnamed as unnamed_state}
 use Rattle.world_step_laws.specs.world_model.posix_spec.Step.{renamed as renamed_state}
 use Rattle.world_step_laws.specs.world_model.posix_spec.Tree.{start, tree}
-use Rattle.world_step_laws.specs.world_model.crash_spec.Permitted.{Permitted}
+use Rattle.world_step_laws.specs.world_model.crash_spec.Permitted.{StronglyPermitted}
 use Rattle.world_step_laws.specs.world_model.Jobs.{unfinished_call, Job}
 use Rattle.world_step_laws.specs.world_model.Promised.{AreWhole}
 use Rattle.world_step_laws.specs.world_model.Shown.{IsTreeOfContent}
@@ -107,7 +107,7 @@ abbrev pub KeepsPromiseInChange : Type 0
 KeepsPromiseInChange =
     (v w : Volume) (d e : List Cell) (claims : List (ℕ × Draft)) (numbers after : List ℕ) (s new : State) (count later : ℕ) (start : State) (history : List Item) (unfinished : List Unfinished)
     → IsRunning v d claims numbers s count → IsChange v w d e → HasRoom w claims [] new → Takes v w claims [] numbers after s new count later
-    → Permitted start.mode start history unfinished (tree s) → Permitted start.mode start history unfinished (tree new) → KeepsPromise v.geometry e start history unfinished
+    → StronglyPermitted start.mode start history unfinished (tree s) → StronglyPermitted start.mode start history unfinished (tree new) → KeepsPromise v.geometry e start history unfinished
 
 -- the tree of the history, or that of the history and one more call
 abbrev pub IsTreeOf : State → List Item → Unfinished → List TreeEntry → Type 0

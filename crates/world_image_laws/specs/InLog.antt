@@ -15,7 +15,7 @@ use Rattle.world_step_laws.specs.commute_laws.posix_types.declared.tree.TreeEntr
 use Rattle.world_step_laws.specs.commute_laws.posix_spec.Run.{after_call, Unfinished}
 use Rattle.world_step_laws.specs.commute_laws.posix_spec.State.{State}
 use Rattle.world_step_laws.specs.commute_laws.posix_laws.Views.{need_of}
-use Rattle.world_step_laws.specs.commute_laws.crash_spec.Permitted.{Permitted}
+use Rattle.world_step_laws.specs.commute_laws.crash_spec.Permitted.{StronglyPermitted}
 use Rattle.world_step_laws.specs.commute_laws.crash_spec.Strict.{StrictFrom}
 use Rattle.world_step_laws.specs.commute_laws.crash_spec.Sync.{SyncFrom}
 use Rattle.world_step_laws.specs.commute_laws.Needs.{Flight, IsApart, LetsAllBe}
@@ -198,7 +198,7 @@ pub kept_of_all : (g : Geometry) (start : State) (history : List Item) (slots : 
     → IsKept g start history (calls_in_log slots jobs ++ last) image → IsKept g start history (map unfinished_call jobs ++ last) image
 kept_of_all g start history slots jobs last image mode is =
     record { checked = is.checked; geometry = is.geometry; tree = is.tree; permitted = λ left tree_is. by start.mode mode left (is.permitted left tree_is) } where
-      by : (m : Mode) → m ≢ Mode.Posix → (left : List TreeEntry) → Permitted m start history (calls_in_log slots jobs ++ last) left → Permitted m start history (map unfinished_call jobs ++ last) left
+      by : (m : Mode) → m ≢ Mode.Posix → (left : List TreeEntry) → StronglyPermitted m start history (calls_in_log slots jobs ++ last) left → StronglyPermitted m start history (map unfinished_call jobs ++ last) left
       by Mode.Strict other left permitted = strict_of_all _ slots jobs last left permitted
       by Mode.Sync other left permitted = sync_of_all _ slots jobs last left permitted
       by Mode.Posix other left permitted = absurd (other refl)

@@ -18,7 +18,7 @@ use Rattle.world_step_laws.specs.world_model.posix_types.declared.tree.TreeEntry
 use Rattle.world_step_laws.specs.world_model.posix_spec.Run.{Unfinished, run}
 use Rattle.world_step_laws.specs.world_model.posix_spec.State.{State}
 use Rattle.world_step_laws.specs.world_model.posix_spec.Tree.{tree}
-use Rattle.world_step_laws.specs.world_model.crash_spec.Permitted.{Permitted}
+use Rattle.world_step_laws.specs.world_model.crash_spec.Permitted.{StronglyPermitted}
 use Rattle.world_step_laws.specs.world_model.Jobs.{unfinished_call, Job}
 use Rattle.world_step_laws.specs.world_model.Promised.{AreWhole, content_shown, IsShown}
 use Rattle.world_step_laws.specs.world_model.Shown.{IsTreeOfContent}
@@ -53,7 +53,7 @@ content_is v claims jobs numbers s count image is = content-own v.geometry v (jo
 -- So it is kept, where its trees are permitted.
 pub kept_by : (v : Volume) (claims : List (ℕ × Draft)) (jobs : List Job) (numbers : List ℕ) (s : State) (count : ℕ) (image : Words) (start : State) (history : List Item) (unfinished : List Unfinished)
     → ShowsWorld v claims jobs numbers s count image
-    → ((left : List TreeEntry) → IsTreeOfContent (content_shown v (journaled image)) left → Permitted start.mode start history unfinished left) → IsKept v.geometry start history unfinished image
+    → ((left : List TreeEntry) → IsTreeOfContent (content_shown v (journaled image)) left → StronglyPermitted start.mode start history unfinished left) → IsKept v.geometry start history unfinished image
 kept_by v claims jobs numbers s count image start history unfinished is permitted = record {
   checked = is_checked v claims jobs numbers s count image is;
   geometry = is.headed.geometry;
@@ -71,14 +71,14 @@ pub kept_strict : (v : Volume) (claims : List (ℕ × Draft)) (jobs : List Job) 
     → ShowsWorld v claims jobs numbers (run start history) count image → IsKept v.geometry start history (map unfinished_call jobs) image
 kept_strict v claims jobs numbers count image start history mode whole is =
     kept_by v claims jobs numbers (run start history) count image start history (map unfinished_call jobs) is
-    (λ left tree_is. subst (λ m. Permitted m start history (map unfinished_call jobs) left) (sym mode)
+    (λ left tree_is. subst (λ m. StronglyPermitted m start history (map unfinished_call jobs) left) (sym mode)
     (strict_promise v claims jobs (journaled image) (journaled image) numbers start history is.landed left whole is.world.valid (shown v claims jobs numbers (run start history) count image is) tree_is))
 
 pub kept_sync : (v : Volume) (claims : List (ℕ × Draft)) (jobs : List Job) (numbers : List ℕ) (count : ℕ) (image : Words) (start : State) (history : List Item) → start.mode ≡ Mode.Sync
     → ShowsWorld v claims jobs numbers (run start history) count image → IsKept v.geometry start history (map unfinished_call jobs) image
 kept_sync v claims jobs numbers count image start history mode is =
     kept_by v claims jobs numbers (run start history) count image start history (map unfinished_call jobs) is
-    (λ left tree_is. subst (λ m. Permitted m start history (map unfinished_call jobs) left) (sym mode)
+    (λ left tree_is. subst (λ m. StronglyPermitted m start history (map unfinished_call jobs) left) (sym mode)
     (sync_promise v claims jobs (journaled image) (journaled image) numbers start history is.landed left is.world.valid (shown v claims jobs numbers (run start history) count image is) tree_is))
 
 -- With no write in flight its one tree is that of the state, in each mode.
@@ -88,17 +88,17 @@ one_tree v claims numbers s count image left is tree_is =
     strict_promise v claims [] (journaled image) (journaled image) numbers s [] is.landed left tt is.world.valid (shown v claims [] numbers s count image is) tree_is
 
 pub kept_one : (v : Volume) (claims : List (ℕ × Draft)) (numbers : List ℕ) (s : State) (count : ℕ) (image : Words) (start : State) (history : List Item) (unfinished : List Unfinished)
-    → ShowsWorld v claims [] numbers s count image → Permitted start.mode start history unfinished (tree s) → IsKept v.geometry start history unfinished image
+    → ShowsWorld v claims [] numbers s count image → StronglyPermitted start.mode start history unfinished (tree s) → IsKept v.geometry start history unfinished image
 kept_one v claims numbers s count image start history unfinished is permitted =
     kept_by v claims [] numbers s count image start history unfinished is
-    (λ left tree_is. subst (Permitted start.mode start history unfinished) (sym (one_tree v claims numbers s count image left is tree_is)) permitted)
+    (λ left tree_is. subst (StronglyPermitted start.mode start history unfinished) (sym (one_tree v claims numbers s count image left is tree_is)) permitted)
 
 -- One more call is unfinished, which lost its power before it acted.
 pub kept_more : (g : Geometry) (start : State) (history : List Item) (unfinished : List Unfinished) (c : Unfinished) (image : Words) → start.mode ≢ Mode.Posix → IsKept g start history unfinished image
     → IsKept g start history (unfinished ++ c ∷ []) image
 kept_more g start history unfinished c image mode is =
     record { checked = is.checked; geometry = is.geometry; tree = is.tree; permitted = λ left tree_is. by start.mode mode left (is.permitted left tree_is) } where
-      by : (m : Mode) → m ≢ Mode.Posix → (left : List TreeEntry) → Permitted m start history unfinished left → Permitted m start history (unfinished ++ c ∷ []) left
+      by : (m : Mode) → m ≢ Mode.Posix → (left : List TreeEntry) → StronglyPermitted m start history unfinished left → StronglyPermitted m start history (unfinished ++ c ∷ []) left
       by Mode.Strict other left permitted = may_be_lost start history unfinished c left permitted
       by Mode.Sync other left permitted = may_be_lost_in_sync start history unfinished c left permitted
       by Mode.Posix other left permitted = absurd (other refl)

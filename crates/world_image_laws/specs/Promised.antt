@@ -12,7 +12,7 @@ use Rattle.world_step_laws.specs.world_model.posix_types.declared.item.Item.{Ite
 use Rattle.world_step_laws.specs.world_model.posix_types.declared.tree.TreeEntry.{TreeEntry}
 use Rattle.world_step_laws.specs.world_model.posix_spec.Run.{Unfinished}
 use Rattle.world_step_laws.specs.world_model.posix_spec.State.{State}
-use Rattle.world_step_laws.specs.world_model.crash_spec.Permitted.{Permitted}
+use Rattle.world_step_laws.specs.world_model.crash_spec.Permitted.{StronglyPermitted}
 use Rattle.world_step_laws.specs.world_model.Shown.{IsTreeOfContent}
 
 -- The image is checked, with this geometry; its content has a tree; and each tree of it is permitted after the history, with
@@ -21,7 +21,7 @@ pub record IsKept (g : Geometry) (start : State) (history : List Item) (unfinish
   pub checked : IsChecked (4096 * g.blocks) image
   pub geometry : geometry_of image ≡ g
   pub tree : (left : List TreeEntry) × IsTreeOfContent (content g image) left
-  pub permitted : (left : List TreeEntry) → IsTreeOfContent (content g image) left → Permitted start.mode start history unfinished left
+  pub permitted : (left : List TreeEntry) → IsTreeOfContent (content g image) left → StronglyPermitted start.mode start history unfinished left
 
 -- THE PROMISE: each honest image of the device is such a one.
 abbrev pub KeepsPromise : Geometry → List Cell → State → List Item → List Unfinished → Type 0

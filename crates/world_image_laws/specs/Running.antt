@@ -16,8 +16,8 @@ use Rattle.world_step_laws.specs.world_model.posix_types.declared.tree.TreeEntry
 use Rattle.world_step_laws.specs.world_model.posix_spec.Run.{Unfinished, run}
 use Rattle.world_step_laws.specs.world_model.posix_spec.State.{State}
 use Rattle.world_step_laws.specs.world_model.posix_spec.Tree.{tree}
-use Rattle.world_step_laws.specs.world_model.crash_spec.Permitted.{Permitted}
-use Rattle.world_step_laws.specs.world_model.crash_spec.RelationLaws.{Permitted-none, Sync-one}
+use Rattle.world_step_laws.specs.world_model.crash_spec.Permitted.{StronglyPermitted}
+use Rattle.world_step_laws.specs.world_model.crash_spec.RelationLaws.{StronglyPermitted-none, Sync-one}
 use Rattle.world_step_laws.specs.world_model.crash_spec.Strict.{Strict-one}
 use Rattle.world_step_laws.specs.world_model.Jobs.{Job}
 use Rattle.world_step_laws.specs.world_model.Shown.{SameButLent}
@@ -43,7 +43,7 @@ shows_running v d claims numbers s count image running is = record {
 -- THE PROMISE of a running world: the tree of the history is left, whatever is unfinished.
 pub promise_now : RunsPromised
 promise_now v d claims numbers start history unfinished count running image is honest =
-    kept_one v claims numbers (run start history) count image start history unfinished (shows_running v d claims numbers (run start history) count image running is) (Permitted-none start.mode start history unfinished)
+    kept_one v claims numbers (run start history) count image start history unfinished (shows_running v d claims numbers (run start history) count image running is) (StronglyPermitted-none start.mode start history unfinished)
 
 -- ---- a change that is done
 
@@ -140,10 +140,10 @@ promise_in_change v w d e claims numbers after s new count later start history u
     ]
 
 -- and so within a change of one call
-permitted_one : (mode : Mode) (start : State) (history : List Item) (c : Unfinished) (t : List TreeEntry) → mode ≢ Mode.Posix → IsTreeOf start history c t → Permitted mode start history (c ∷ []) t
-permitted_one mode start history c t other (inl before) = subst (Permitted mode start history (c ∷ [])) (sym before) (Permitted-none mode start history (c ∷ []))
-permitted_one Mode.Strict start history c t other (inr behind) = subst (Permitted Mode.Strict start history (c ∷ [])) (sym behind) (Strict-one start history c)
-permitted_one Mode.Sync start history c t other (inr behind) = subst (Permitted Mode.Sync start history (c ∷ [])) (sym behind) (Sync-one start history c)
+permitted_one : (mode : Mode) (start : State) (history : List Item) (c : Unfinished) (t : List TreeEntry) → mode ≢ Mode.Posix → IsTreeOf start history c t → StronglyPermitted mode start history (c ∷ []) t
+permitted_one mode start history c t other (inl before) = subst (StronglyPermitted mode start history (c ∷ [])) (sym before) (StronglyPermitted-none mode start history (c ∷ []))
+permitted_one Mode.Strict start history c t other (inr behind) = subst (StronglyPermitted Mode.Strict start history (c ∷ [])) (sym behind) (Strict-one start history c)
+permitted_one Mode.Sync start history c t other (inr behind) = subst (StronglyPermitted Mode.Sync start history (c ∷ [])) (sym behind) (Sync-one start history c)
 permitted_one Mode.Posix start history c t other (inr behind) = absurd (other refl)
 
 pub promise_of_call : KeepsPromiseOfCall

@@ -31,11 +31,11 @@ pub busy_home : (p : Parts) → IsKept p → p.lost ≡ false → p.lines_out �
 busy_home p kept awake home who call =
     ap (λ (ps : List JobOut). is_busy (state_of (seen p)) (files_by (state_of (seen p)) ps) (who, call)) at_home.lines.0 ∙ none_busy (state_of (seen p)) (who, call) where
       at_home : StandsAt p.geometry p.k p.files.tables (kept_of (seen p) p.staging p.data) false (length p.history.items) (state_of (seen p))
-      at_home = subst (λ b. StandsAt p.geometry p.k p.files.tables (kept_of (seen p) p.staging p.data) b (length p.history.items) (state_of (seen p))) home (kept.world.going awake).stands
+      at_home = subst (λ b. StandsAt p.geometry p.k p.files.tables (kept_of (seen p) p.staging p.data) b (length p.history.items) (state_of (seen p))) home ((kept.world.going awake).stands kept.world.mode)
 
 module _ (p : Parts) (kept : IsKept p) (awake : p.lost ≡ false) (out : p.lines_out ≡ true) (who : Who) (call : Call) where
   stands : StandsAt p.geometry p.k p.files.tables (kept_of (seen p) p.staging p.data) true (length p.history.items) (state_of (seen p))
-  stands = subst (λ b. StandsAt p.geometry p.k p.files.tables (kept_of (seen p) p.staging p.data) b (length p.history.items) (state_of (seen p))) out (kept.world.going awake).stands
+  stands = subst (λ b. StandsAt p.geometry p.k p.files.tables (kept_of (seen p) p.staging p.data) b (length p.history.items) (state_of (seen p))) out ((kept.world.going awake).stands kept.world.mode)
 
   pub busy_none : (found : Option (ℕ × Who)) → IsKeptBusy who call p.k p.files.tables p.pending.items found → IfNone found (is_busy (state_of (seen p)) (files_out (seen p)) (who, call) ≡ false)
   busy_none None is = is p.geometry (kept_of (seen p) p.staging p.data) (length p.history.items) (state_of (seen p)) stands refl

@@ -36,7 +36,7 @@ gather_steps runs files old new few steps = steps_within (2 ^ 15 * (runs + files
 module _ (ready : EndsReady) (p : Parts) (l : View) (lines : List Part) (kept : IsKept p) (on : p.lost ≡ false) (none : p.pending.items ≡ []) (holds : HoldTheClaims (seen p) lines) (same : l ≡ record p.k { cells = l.cells })
     (orders : l.lost ≡ false → IsInOrder l) (back : LinesComeBack (log_line p.k.volume.geometry 0) lines p.k.cells l.cells) (home : (i : ℕ) → IsLogWord p.k.volume i → is_lent (cell l.cells i) ≡ false) where
   stands : StandsAt p.geometry p.k p.files.tables (kept_of (seen p) p.staging p.data) p.lines_out (length p.history.items) (state_of (seen p))
-  stands = (kept.world.going on).stands
+  stands = (kept.world.going on).stands kept.world.mode
 
   -- THE WORLD ENDS its round.
   pub ending_of : IsEnding p.k l p.files.tables p.staging p.data (seen p) lines

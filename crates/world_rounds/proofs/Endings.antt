@@ -10,7 +10,7 @@ use Rattle.world_parts.specs.layout_model.Places.{Geometry}
 use Rattle.world_parts.specs.k_journal.declared.outcomes.Commit.{Commit}
 use Rattle.world_parts.specs.k_split_model.View.{View}
 use Rattle.posix_types.specs.declared.call.Mode.{Mode}
-use Rattle.world_parts.specs.crash_spec.Permitted.{Permitted}
+use Rattle.world_parts.specs.crash_spec.Permitted.{StronglyPermitted}
 use Rattle.world_parts.specs.crash_spec.RelationLaws.{Strict-idle, Sync-idle}
 use Rattle.world_parts.specs.posix_spec.Run.{Unfinished}
 use Rattle.world_parts.specs.posix_spec.Tree.{tree}
@@ -44,7 +44,7 @@ empty_by g m pm same empty = subst (λ (d : List Cell). HasEmptyLog g d) (sym sa
 -- Outside POSIX mode the promise with nothing unfinished permits no other tree than that of the history.
 pub tree_by : (w : WorldView) (pm : List Cell) → w.start.mode ≢ Mode.Posix → IsLeft w pm w.history [] → HasTreeOf w pm
 tree_by w pm other left image is honest shown content_is = by w.start.mode other ((left.promise image is honest).permitted shown content_is) where
-  by : (mode : Mode) → mode ≢ Mode.Posix → Permitted mode w.start w.history [] shown → shown ≡ tree (state_of w)
+  by : (mode : Mode) → mode ≢ Mode.Posix → StronglyPermitted mode w.start w.history [] shown → shown ≡ tree (state_of w)
   by Mode.Strict other permitted = Strict-idle w.start w.history shown permitted
   by Mode.Sync other permitted = Sync-idle w.start w.history shown permitted
   by Mode.Posix other permitted = absurd (other refl)

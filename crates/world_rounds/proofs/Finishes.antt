@@ -60,7 +60,7 @@ module _ (p : Parts) (kept : IsKept p) (awake : p.lost ≡ false) (out : p.lines
   going = kept.world.going awake
 
   pub callers : AllPairs AreOfTwoThreads p.pending.items
-  callers = going.stands.callers
+  callers = (going.stands kept.world.mode).callers
 
   -- the one that is taken is the job's
   pub taken_is : (taken : JobOut) → In taken p.pending.items → taken.who ≡ job.who → taken ≡ q
@@ -88,7 +88,7 @@ module _ (p : Parts) (kept : IsKept p) (awake : p.lost ≡ false) (out : p.lines
   })
 
   pub answers_so : (step (state_of (seen p)) q.who q.call).outcome ≡ answer (Reply.Count (length (put_bytes_of q.call)))
-  answers_so = job_answers p.geometry p.k p.files.tables _ p.lines_out (length p.history.items) (state_of (seen p)) going.stands q is_out.there
+  answers_so = job_answers p.geometry p.k p.files.tables _ p.lines_out (length p.history.items) (state_of (seen p)) (going.stands kept.world.mode) q is_out.there
 
   -- ---- what it leaves
 

@@ -53,7 +53,7 @@ module _ (law : StandsOut) (may : MayBegin) (p q : Parts) (l : View) (lines : Li
   order = orders (ap (λ (x : View). x.lost) same ∙ taken.on)
 
   words : (i : ℕ) → IsLogWord p.k.volume i → first_by p.geometry ws i ≡ words_of p.k.cells i
-  words = kept_words p.k l lines are goes ws count each p.geometry (kept.world.going on).stands.geometry
+  words = kept_words p.k l lines are goes ws count each p.geometry ((kept.world.going on).stands kept.world.mode).geometry
 
   abbrev rest : Parts
   rest = record p { k = l; first = q.first; lines_out = true }

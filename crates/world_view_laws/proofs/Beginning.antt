@@ -40,7 +40,7 @@ module _ (k : View) (t : Tables) (staging : Staged) (files : Files) (w : WorldVi
   going = world.going on
 
   pub standing : StandsAt w.geometry k t (kept_of w staging files) true (length w.history) (state_of w)
-  standing = subst (λ b. StandsAt w.geometry k t (kept_of w staging files) b (length w.history) (state_of w)) out going.stands
+  standing = subst (λ b. StandsAt w.geometry k t (kept_of w staging files) b (length w.history) (state_of w)) out (going.stands world.mode)
 
   next_out : (p : JobOut) → In p w.pending → IsNextCall w.scripts w.history (begun_by p)
   next_out p at = next_of_job w.scripts w.history w.pending w.unfinished world.open_calls p at
@@ -68,10 +68,12 @@ module _ (k : View) (t : Tables) (staging : Staged) (files : Files) (w : WorldVi
       (stands : StandsAt w.geometry l u (kept_of w staging laid) true (length w.history + 1) (after_call (state_of w) (who, call))) where
     going2 : IsGoing l u staging laid (return_view l u laid)
     going2 = record {
-      stands =
+      stands = λ mode.
           subst (λ b. StandsAt w.geometry l u (kept_of (return_view l u laid) staging laid) b (length (w.history ++ item_of w who call ∷ [])) (state_of (return_view l u laid))) (sym out)
           (subst (StandsAt w.geometry l u (kept_of (return_view l u laid) staging laid) true (length (w.history ++ item_of w who call ∷ []))) (sym grown.run_is)
           (subst (λ n. StandsAt w.geometry l u (kept_of (return_view l u laid) staging laid) true n (after_call (state_of w) (who, call))) (sym grown.longer) stands));
+      gathers = λ posix. absurd (world.mode posix);
+      waits = λ posix. absurd (world.mode posix);
       counted = going.counted;
       runs = λ settled. absurd (omega (arith, settled, world.counted.settled, grown.longer));
       bare = going.bare;
@@ -132,7 +134,9 @@ module _ (k : View) (t : Tables) (staging : Staged) (files : Files) (w : WorldVi
       (stands : StandsAt w.geometry l t (record (kept_of w staged laid) { pending = w.pending ++ p ∷ [] }) true (length w.history) (state_of w)) where
     going3 : IsGoing l t staged laid (job_view l staged laid p)
     going3 = record {
-      stands = subst (λ b. StandsAt w.geometry l t (kept_of (job_view l staged laid p) staged laid) b (length w.history) (state_of w)) (sym out) stands;
+      stands = λ mode. subst (λ b. StandsAt w.geometry l t (kept_of (job_view l staged laid p) staged laid) b (length w.history) (state_of w)) (sym out) stands;
+      gathers = λ posix. absurd (world.mode posix);
+      waits = λ posix. absurd (world.mode posix);
       counted = λ mode. (let was = going.counted mode in omega (arith, runs, was, length-append w.pending (p ∷ [])));
       runs = λ settled. (let was = going.runs settled in omega (arith, runs, was, length-append w.pending (p ∷ [])));
       bare = λ goes none. absurd (let zero = ap length none in omega (arith, runs, zero));

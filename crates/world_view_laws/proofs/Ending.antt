@@ -83,7 +83,7 @@ module _ (k : View) (t : Tables) (staging : Staged) (files : Files) (w : WorldVi
   going = world.going on
 
   pub standing : StandsAt w.geometry k t (kept_of w staging files) true (length w.history) (state_of w)
-  standing = subst (λ b. StandsAt w.geometry k t (kept_of w staging files) b (length w.history) (state_of w)) out going.stands
+  standing = subst (λ b. StandsAt w.geometry k t (kept_of w staging files) b (length w.history) (state_of w)) out (going.stands world.mode)
 
   -- what an end of the job asks for
   abbrev pub has : HasJob k job
@@ -186,7 +186,9 @@ module _ (k : View) (t : Tables) (staging : Staged) (files : Files) (w : WorldVi
 
     going2 : IsGoing l u staging laid (finish_view slot l u laid)
     going2 = record {
-      stands = subst (λ b. StandsAt w.geometry l u (kept_of (finish_view slot l u laid) staging laid) b (length (w.history ++ item_of w p.who p.call ∷ [])) (state_of (finish_view slot l u laid))) (sym out) stands2;
+      stands = λ mode. subst (λ b. StandsAt w.geometry l u (kept_of (finish_view slot l u laid) staging laid) b (length (w.history ++ item_of w p.who p.call ∷ [])) (state_of (finish_view slot l u laid))) (sym out) stands2;
+      gathers = λ posix. absurd (world.mode posix);
+      waits = λ posix. absurd (world.mode posix);
       counted = λ mode. (let was = going.counted mode in omega (arith, was, one_less, length-append w.claims ((slot, p.draft) ∷ [])));
       runs = λ settled. absurd (omega (arith, settled, world.counted.settled, grown.longer));
       bare = going.bare;
@@ -250,7 +252,9 @@ module _ (k : View) (t : Tables) (staging : Staged) (files : Files) (w : WorldVi
   module _ (full : Full) (l : View) (given : Staged) (same : l ≡ record k { cells = l.cells }) (runs : length given.out + 1 ≡ length staging.out) (leaves : LeavesGivenUp k job has l given) where
     going3 : IsGoing l t given files (give_view full l given)
     going3 = record {
-      stands = subst (λ b. StandsAt w.geometry l t (kept_of (give_view full l given) given files) b (length w.history) (state_of w)) (sym out) leaves.stands;
+      stands = λ mode. subst (λ b. StandsAt w.geometry l t (kept_of (give_view full l given) given files) b (length w.history) (state_of w)) (sym out) leaves.stands;
+      gathers = λ posix. absurd (world.mode posix);
+      waits = λ posix. absurd (world.mode posix);
       counted = λ mode. (let was = going.counted mode in omega (arith, was, one_less, runs));
       runs = λ settled. (let was = going.runs settled in omega (arith, was, one_less, runs));
       bare = λ goes none. absurd (let never : Some (over_by w.over full) ≡ None = goes in cc);

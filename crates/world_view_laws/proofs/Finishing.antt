@@ -63,5 +63,5 @@ module _ (law : EndFinished) (k : View) (t : Tables) (staging : Staged) (files :
   pub finished_ends : FilesEnd l.volume laid
   finished_ends =
       let going = world.going on in
-      law w.geometry k l t u (kept_of w staging files) _ _ true _ _ (state_of w) _ slot p going.stands is_out.there (going.drafts_end p is_out.there)
+      law w.geometry k l t u (kept_of w staging files) _ _ true _ _ (state_of w) _ slot p (going.stands world.mode) is_out.there (going.drafts_end p is_out.there)
       (ap (λ (x : View). x.volume) same) refl leaves.stands going.ends

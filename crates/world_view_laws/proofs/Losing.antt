@@ -84,20 +84,23 @@ module _ (k : View) (t : Tables) (staging : Staged) (files : Files) (w : WorldVi
   going : IsGoing k t staging files w
   going = world.going on
 
+  stands : StandsAt w.geometry k t (kept_of w staging files) w.lines_out (length w.history) (state_of w)
+  stands = going.stands world.mode
+
   pub size_now : length k.cells ≡ 512 * w.geometry.blocks
   size_now =
-      going.stands.order.stands.size
-      ∙ ap (λ (v : Volume). 512 * v.geometry.blocks) (going.stands.order.settled going.stands.unbatched)
-      ∙ ap (λ (g : Geometry). 512 * g.blocks) going.stands.geometry
+      stands.order.stands.size
+      ∙ ap (λ (v : Volume). 512 * v.geometry.blocks) (stands.order.settled stands.unbatched)
+      ∙ ap (λ (g : Geometry). 512 * g.blocks) stands.geometry
 
   stands_as : (lines : Bool) → w.lines_out ≡ lines → StandsAt w.geometry k t (kept_of w staging files) lines (length w.history) (state_of w)
-  stands_as lines out = subst (λ b. StandsAt w.geometry k t (kept_of w staging files) b (length w.history) (state_of w)) out going.stands
+  stands_as lines out = subst (λ b. StandsAt w.geometry k t (kept_of w staging files) b (length w.history) (state_of w)) out stands
 
   -- with the log's lines out, and no call beside the jobs, or one
   off_out : (unfinished : List Unfinished) (acts : ℕ) → IsLostWith k.volume k.cells (kept_of w staging files) w.start w.history unfinished → IsLostOut staging files (lost_view w unfinished acts (disk_of k t staging files))
   off_out unfinished acts lost = record {
     volume = k.volume;
-    geometry = going.stands.geometry;
+    geometry = stands.geometry;
     base = sym going.base;
     none_home = going.none_home;
     size = size_now;

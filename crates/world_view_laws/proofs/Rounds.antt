@@ -40,14 +40,16 @@ module _ (law : StandsOut) (k l : View) (t : Tables) (staging : Staged) (files :
   going = world.going on
 
   standing : StandsAt w.geometry k t (kept_of w staging files) false (length w.history) (state_of w)
-  standing = subst (λ b. StandsAt w.geometry k t (kept_of w staging files) b (length w.history) (state_of w)) home going.stands
+  standing = subst (λ b. StandsAt w.geometry k t (kept_of w staging files) b (length w.history) (state_of w)) home (going.stands world.mode)
 
   turned : HasTurned w.geometry k t (kept_of w staging files) (with_first (kept_of w staging files) (first_by w.geometry first)) false true (length w.history) (state_of w) l.cells standing
   turned = law w.geometry k t (kept_of w staging files) (length w.history) (state_of w) l.cells lines (first_by w.geometry first) words standing (going.log_home home).old (subst IsInOrder same order) are goes
 
   going_on : IsGoing l t staging files (begun_view w l t staging files first)
   going_on = record {
-    stands = subst (λ (x : View). StandsAt w.geometry x t (kept_of (begun_view w l t staging files first) staging files) true (length w.history) (state_of w)) (sym same) turned.now;
+    stands = λ mode. subst (λ (x : View). StandsAt w.geometry x t (kept_of (begun_view w l t staging files first) staging files) true (length w.history) (state_of w)) (sym same) turned.now;
+    gathers = λ posix. absurd (world.mode posix);
+    waits = λ posix. absurd (world.mode posix);
     counted = going.counted;
     runs = going.runs;
     bare = going.bare;
@@ -87,7 +89,7 @@ module _ (law : StandsOut) (k l : View) (t : Tables) (staging : Staged) (files :
   }
 
   same_places : k.volume.geometry ≡ w.geometry
-  same_places = going.stands.geometry
+  same_places = (going.stands world.mode).geometry
 
   word_at_first : (n j : ℕ) → n < length lines → j < 8 → cell (line_at lines n).cells j ≡ Single (first_by w.geometry first (8 * (log_line w.geometry 0 + n) + j))
   word_at_first n j below word =

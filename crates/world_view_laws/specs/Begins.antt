@@ -190,7 +190,7 @@ pub record IsInPlace (w : WorldView) (who : Who) (call : Call) (disk : Disk) : T
   pub cells : disk ≡ record middle { cells = disk.cells; tables = disk.tables }
 
 -- IT RETURNED: it is not logged, the jobs that are out left what it needs, its holes could be filled, and its item stands at the end of the
--- history. Outside POSIX mode nothing was staged for it, and what it writes in place lies where it lay. It left the tree as it is, or took a
+-- history. Outside POSIX mode nothing was staged for it, what it writes in place lies where it lay, and it left the tree as it is or took a
 -- step.
 pub record Returns (who : Who) (old new : WorldView) (before after : Supply) : Type 0 where
   pub call : Call
@@ -205,7 +205,7 @@ pub record Returns (who : Who) (old new : WorldView) (before after : Supply) : T
   pub in_place : old.start.mode ≢ Mode.Posix → (range : ℕ × ℕ) → placed_at (state_of old) (put_by (state_of old) who call) ≡ Some range → IsInPlace old who call new.disk
   pub stay : OthersStay old new who
   pub on : is_on after ≡ true
-  pub spent : (tree (after_call (state_of old) (who, call)) ≡ tree (state_of old)) ⊎ TakesAStep before after
+  pub spent : old.start.mode ≢ Mode.Posix → (tree (after_call (state_of old) (who, call)) ≡ tree (state_of old)) ⊎ TakesAStep before after
 
 -- the entry is of the blocks of its plan, and of no other
 abbrev pub IsOfPlan : Option (ℕ × ℕ) → Draft → Type 0

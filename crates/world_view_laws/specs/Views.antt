@@ -13,6 +13,7 @@ use Rattle.in_flight.specs.layout_model.declared.lines.Draft.{Draft}
 use Rattle.in_flight.specs.layout_model.declared.lines.Inode.{Inode}
 use Rattle.in_flight.specs.layout_model.Places.{Geometry, log_line}
 use Rattle.in_flight.specs.image_model.Volume.{free_inode, Volume}
+use Rattle.file_calls.specs.batch_laws.Together.{PosixStandsAt}
 use Rattle.file_calls.specs.eof_laws.Ends.{DraftEnds, FilesEnd}
 use Rattle.in_flight.specs.file_table.Files.{Files, runs_in}
 use Rattle.in_flight.specs.k_split_model.View.{View}
@@ -147,12 +148,15 @@ pub record IsLogHome (k : View) (w : WorldView) : Type 0 where
   pub none : w.claims ≡ []
   pub old : HasOldLines k.volume (words_of k.cells)
 
--- WHILE THE POWER IS ON, K-Split and what is kept beside it stand together in the state of the history; the runs of the staging that are
+-- WHILE THE POWER IS ON, K-Split and what is kept beside it stand together in the state of the history, in POSIX mode with the batch that
+-- K-Split gathers, in which no block waits while no call returned in the round; the runs of the staging that are
 -- out are those of the jobs, and outside POSIX mode of the claims of this lap, one each, and no other; in POSIX mode just those of the jobs
 -- until a call returned in the round. While the round goes on with none out, nothing is staged; each claim is an entry that a line can
 -- hold; and nothing of a file or of an entry lies past its end.
 pub record IsGoing (k : View) (t : Tables) (staging : Staged) (files : Files) (w : WorldView) : Type 0 where
-  pub stands : StandsAt w.geometry k t (kept_of w staging files) w.lines_out (length w.history) (state_of w)
+  pub stands : w.start.mode ≢ Mode.Posix → StandsAt w.geometry k t (kept_of w staging files) w.lines_out (length w.history) (state_of w)
+  pub gathers : w.start.mode ≡ Mode.Posix → PosixStandsAt w.geometry k t (kept_of w staging files) w.lines_out (length w.history) w.start w.history
+  pub waits : w.start.mode ≡ Mode.Posix → w.settled ≡ length w.history → k.waiting ≡ []
   pub counted : w.start.mode ≢ Mode.Posix → length staging.out ≡ length w.claims + length w.pending
   pub runs : w.settled ≡ length w.history → length staging.out ≡ length w.pending
   pub bare : w.over ≡ None → staging.out ≡ [] → staging ≡ nothing_staged

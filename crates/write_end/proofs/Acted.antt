@@ -9,7 +9,7 @@ use Rattle.in_place.specs.k_split_laws.posix_types.declared.item.Item.{Item}
 use Rattle.in_place.specs.k_split_laws.posix_types.declared.tree.TreeEntry.{TreeEntry}
 use Rattle.in_place.specs.k_split_laws.posix_spec.Run.{after_call, Unfinished, run}
 use Rattle.in_place.specs.k_split_laws.posix_spec.State.{State}
-use Rattle.in_place.specs.live_model.write_jobs.world_image_laws.crash_spec.Permitted.{Permitted}
+use Rattle.in_place.specs.live_model.write_jobs.world_image_laws.crash_spec.Permitted.{StronglyPermitted}
 use Rattle.in_place.specs.live_model.write_jobs.world_image_laws.crash_spec.Strict.{StrictFrom}
 use Rattle.in_place.specs.live_model.write_jobs.world_image_laws.crash_spec.Sync.{SyncFrom}
 use Rattle.in_place.specs.live_model.write_jobs.world_image_laws.Back.{calls_in_log}
@@ -77,7 +77,7 @@ pub kept_of_acted : (g : Geometry) (start : State) (history : List Item) (acts :
     → AreJobsOf pending jobs → HoldsOfSlots acts slot_of pending jobs → IsKept g start history (calls_in_log (map slot_of jobs) jobs ++ last) image → IsKept g start history (map begun_by (filter acts pending) ++ last) image
 kept_of_acted g start history acts slot_of pending jobs last image mode are holds is =
     record { checked = is.checked; geometry = is.geometry; tree = is.tree; permitted = λ left tree_is. by start.mode mode left (is.permitted left tree_is) } where
-      by : (m : Mode) → m ≢ Mode.Posix → (left : List TreeEntry) → Permitted m start history (calls_in_log (map slot_of jobs) jobs ++ last) left → Permitted m start history (map begun_by (filter acts pending) ++ last) left
+      by : (m : Mode) → m ≢ Mode.Posix → (left : List TreeEntry) → StronglyPermitted m start history (calls_in_log (map slot_of jobs) jobs ++ last) left → StronglyPermitted m start history (map begun_by (filter acts pending) ++ last) left
       by Mode.Strict other left permitted = strict_acted acts slot_of last left (run start history) pending jobs are holds permitted
       by Mode.Sync other left permitted = sync_acted acts slot_of last left (run start history) pending jobs are holds permitted
       by Mode.Posix other left permitted = absurd (other refl)

@@ -1,5 +1,5 @@
-use Rattle.batch_laws.specs.PromiseLaws.{going_is_promised, going_is_promised_strongly, going_runs}
+use Rattle.batch_laws.specs.PromiseLaws.{going_is_promised, going_runs}
 use Rattle.batch_laws.proofs.the_device_keeps_the_promise.Goals as goal
 
 pub returns : goal.returns
-returns c = record { runs = going_runs; promised = going_is_promised c.posix_mode_keeps_its_promise.ensures.by_stronger_rule; strongly = going_is_promised_strongly }
+returns c = record { runs = going_runs; promised = going_is_promised }

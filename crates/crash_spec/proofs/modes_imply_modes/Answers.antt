@@ -1,4 +1,4 @@
-use Rattle.crash_spec.proofs.PosixLaws.{Posix-StrongPosix}
+use Rattle.crash_spec.specs.StrongLaws.{Permitted-Strongly}
 use Rattle.crash_spec.specs.RelationLaws.{IsPartOf-none, IsPartOf-whole, Sync-Strict}
 use Rattle.crash_spec.proofs.modes_imply_modes.Goals as goal
 
@@ -11,5 +11,5 @@ returns-clause-whole c = IsPartOf-whole
 pub returns-clause-none : goal.returns-clause-none
 returns-clause-none c = IsPartOf-none
 
-pub returns-clause-posix : goal.returns-clause-posix
-returns-clause-posix c = Posix-StrongPosix
+pub returns-clause-strongly : goal.returns-clause-strongly
+returns-clause-strongly c = Permitted-Strongly

@@ -32,7 +32,7 @@ fn begin_call(
     requires on { is_on power.old ≡ true }
     requires turn { IsTurn p.old who call }
     ensures kept { p.new.usable ≡ true → IsKept p.new }
-    ensures steps { Steps (most_of (Some call)) power.old power.new }
+    ensures steps { Steps (most_of (seen p.old).start.mode (Some call)) power.old power.new }
     ensures begun { IsBegun who (seen p.old) (seen p.new) power.old power.new result }
 {
     match put_of(&call) {
@@ -92,7 +92,7 @@ fn begin_free(
     requires going { p.old.over ≡ None }
     requires idle { is_busy (state_of (seen p.old)) (files_out (seen p.old)) (who, call) ≡ false }
     ensures kept { p.new.usable ≡ true → IsKept p.new }
-    ensures steps { Steps (most_of (Some call)) power.old power.new }
+    ensures steps { Steps (most_of (seen p.old).start.mode (Some call)) power.old power.new }
     ensures begun { IsBegun who (seen p.old) (seen p.new) power.old power.new result }
 {
     match make_room(p) {
@@ -121,7 +121,7 @@ fn begin_on(
     requires none { HasNone (seen p.old) who }
     requires set_up { IsSetUp p.old.scripts p.old.history.items who }
     ensures kept { p.new.usable ≡ true → IsKept p.new }
-    ensures steps { Steps (most_of (Some call)) power.old power.new }
+    ensures steps { Steps (most_of (seen p.old).start.mode (Some call)) power.old power.new }
     ensures begun { IsBegun who (seen p.old) (seen p.new) power.old power.new result }
 {
     match p.over {
@@ -192,7 +192,7 @@ pub fn begin_next(
     requires none { HasNone (seen p.old) who }
     requires set_up { IsSetUp p.old.scripts p.old.history.items who }
     ensures kept { p.new.usable ≡ true → IsKept p.new }
-    ensures steps { Steps (most_of (next_of (seen p.old) who)) power.old power.new }
+    ensures steps { Steps (most_of (seen p.old).start.mode (next_of (seen p.old) who)) power.old power.new }
     ensures begun { IsBegun who (seen p.old) (seen p.new) power.old power.new result }
 {
     match call_at(&p.scripts, who, calls_made(&p.counters, who)) {

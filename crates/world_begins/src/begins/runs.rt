@@ -183,7 +183,7 @@ pub(crate) fn run_whole(
     requires turn { IsTurn p.old who call }
     requires plain { PutsNothing call }
     ensures kept { p.new.usable ≡ true → IsKept p.new }
-    ensures steps { Steps (most_of (Some call)) power.old power.new }
+    ensures steps { Steps (most_of (seen p.old).start.mode (Some call)) power.old power.new }
     ensures begun { IsBegun who (seen p.old) (seen p.new) power.old power.new result }
 {
     if let Some((need, room)) = room_lacks(p, who, &call) {

@@ -46,7 +46,7 @@ returns-in-Err-clause-kept c usable = dropped (seen c.args.p.now) (seen c.publis
 pub returns-in-Ok-Some-clause-steps : goal.returns-in-Ok-Some-clause-steps
 returns-in-Ok-Some-clause-steps c =
     let first = subst (λ (o : Option Call). IsPublishedFirst c.args.who c.args.call c.args.p.now c.publish_first.new.p c.publish_first.new.power (Ok o)) c.in-Ok-Some.field-0-is c.in-Ok-Some.ensures.first in
-    both_steps c.args.call _ c.args.power.now c.publish_first.new.power c.run_now.new.power first.0 c.publish_first.ensures.steps c.run_now.ensures.steps
+    both_steps (seen c.args.p.now).start.mode c.args.call _ c.args.power.now c.publish_first.new.power c.run_now.new.power first.0 c.publish_first.ensures.steps c.run_now.ensures.steps
 
 pub returns-in-Ok-None-clause-steps : goal.returns-in-Ok-None-clause-steps
-returns-in-Ok-None-clause-steps c = first_steps c.args.call c.args.power.now c.publish_first.new.power c.publish_first.ensures.steps
+returns-in-Ok-None-clause-steps c = first_steps (seen c.args.p.now).start.mode c.args.call c.args.power.now c.publish_first.new.power c.publish_first.ensures.steps

@@ -1,12 +1,14 @@
 -- The stronger rule for bytes implies the rule, and so the stronger relation the relation.
 use Rattle.std.specs.Prelude.{◌≡◌, ℕ, Bool, true, false, ◌||◌, cond, Option, Some, None, List, [], ◌∷◌, map, refl}
 use Rattle.std.proofs.Common.{inl, inr, sym, ◌∙◌, subst}
+use Rattle.posix_laws.specs.posix_types.declared.call.Mode.{Mode}
 use Rattle.posix_laws.specs.posix_types.declared.item.Item.{Item}
 use Rattle.posix_laws.specs.posix_types.declared.tree.TreeEntry.{TreeEntry}
 use Rattle.posix_laws.specs.posix_tables.declared.nodes.Node.{Node}
 use Rattle.posix_laws.specs.posix_tables.Nodes.{node_at}
 use Rattle.posix_laws.specs.posix_spec.Run.{after_call, after_calls, Unfinished, begun, run}
 use Rattle.posix_laws.specs.posix_spec.State.{State}
+use Rattle.crash_spec.specs.Permitted.{Permitted, StronglyPermitted}
 use Rattle.crash_spec.specs.Posix.{acting, ByteRule, IsLastOrAny, IsLeft, LastBeforeCut, NodeLeft, others, OrUnfinished, Overwritten, Posix, StrongPosix, TreeLeft}
 use Rattle.crash_spec.specs.Values.{is_shortened, IsOneOf, last_of, shortens, value_before_cut, value_put, values_put, with_value}
 
@@ -68,7 +70,7 @@ left_weaker a b implies s m h =
 tree_weaker : (a b : ByteRule) → Implies a b → (s : State) (left : List TreeEntry) → TreeLeft a s left → TreeLeft b s left
 tree_weaker a b implies s left h = (h.0, left_weaker a b implies s h.0 h.1, h.2)
 
-pub Posix-StrongPosix : (s : State) (history : List Item) (unfinished : List Unfinished) (left : List TreeEntry) → StrongPosix s history unfinished left → Posix s history unfinished left
+Posix-StrongPosix : (s : State) (history : List Item) (unfinished : List Unfinished) (left : List TreeEntry) → StrongPosix s history unfinished left → Posix s history unfinished left
 Posix-StrongPosix s history unfinished left h = elim h [
   | inl front ↦
       let a = LastBeforeCut (run s front.kept) (map begun front.later) in
@@ -93,3 +95,9 @@ Posix-StrongPosix s history unfinished left h = elim h [
     | inr whole ↦ inr (inr whole)
   ]
 ]
+
+-- and so what is strongly permitted in a mode is permitted in it
+pub Permitted-Strongly : (mode : Mode) (s : State) (history : List Item) (unfinished : List Unfinished) (left : List TreeEntry) → StronglyPermitted mode s history unfinished left → Permitted mode s history unfinished left
+Permitted-Strongly Mode.Strict s history unfinished left h = h
+Permitted-Strongly Mode.Sync s history unfinished left h = h
+Permitted-Strongly Mode.Posix s history unfinished left h = Posix-StrongPosix s history unfinished left h

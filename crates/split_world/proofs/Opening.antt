@@ -18,7 +18,7 @@ use Rattle.world_begins.specs.world_parts.Seen.{HasRoom, IsKept, seen, unfinishe
 
 -- nothing is done in them
 pub record IsFirst (p : Parts) : Type 0 where
-  pub tables : p.files.tables ≡ nothing_open
+  pub tables : p.tables.tables ≡ nothing_open
   pub staging : p.staging ≡ nothing_staged
   pub geometry : p.geometry ≡ p.k.volume.geometry
   pub base : p.base ≡ p.k.volume.base
@@ -42,7 +42,7 @@ pub record IsFirst (p : Parts) : Type 0 where
   pub one : 1 ≤ vec_capacity p.spare
 
 module _ (p : Parts) (is : IsFirst p) where
-  first_seen : seen p ≡ first_view p.k p.data p.tree p.shape p.mode p.scripts
+  first_seen : seen p ≡ first_view p.k p.files p.tree p.shape p.mode p.scripts
   first_seen = λ i. record {
     geometry = is.geometry i;
     base = is.base i;
@@ -56,7 +56,7 @@ module _ (p : Parts) (is : IsFirst p) where
     over = is.over i;
     given_up = is.given_up i;
     acts = is.acts i;
-    disk = disk_of p.k (is.tables i) (is.staging i) p.data;
+    disk = disk_of p.k (is.tables i) (is.staging i) p.files;
     lines_out = is.lines_out i;
     home = is.home i;
     first = is.first i;
@@ -77,18 +77,18 @@ module _ (p : Parts) (is : IsFirst p) where
   }
 
   -- THE WORLD OF THESE PARTS begins.
-  first_kept : StartsGoing → WasMounted p.k → p.mode ≢ Mode.Posix → AreInLimits p.scripts → ShowsAs p.k p.tree p.shape → HasSizesOf p.k.volume p.data → IsKept p
+  first_kept : StartsGoing → WasMounted p.k → p.mode ≢ Mode.Posix → AreInLimits p.scripts → ShowsAs p.k p.tree p.shape → HasSizesOf p.k.volume p.files → IsKept p
   first_kept law was other limits shown sizes =
       let may : MayStart was.0 was.1 p.k p.tree p.shape p.mode p.scripts = record { mounted = was.2; shown = shown; mode_is = other; limits = limits } in
-      let going = law was.0 was.1 p.k p.tree p.shape p.mode p.scripts p.data may sizes in
+      let going = law was.0 was.1 p.k p.tree p.shape p.mode p.scripts p.files may sizes in
       record {
-        world = subst (λ (w : WorldView). IsWorldOver p.k p.files.tables p.staging p.data w) (sym first_seen)
-            (subst (λ (x : Staged). IsWorldOver p.k p.files.tables x p.data (first_view p.k p.data p.tree p.shape p.mode p.scripts)) (sym is.staging)
-            (subst (λ (t : Tables). IsWorldOver p.k t nothing_staged p.data (first_view p.k p.data p.tree p.shape p.mode p.scripts)) (sym is.tables) going));
+        world = subst (λ (w : WorldView). IsWorldOver p.k p.tables.tables p.staging p.files w) (sym first_seen)
+            (subst (λ (x : Staged). IsWorldOver p.k p.tables.tables x p.files (first_view p.k p.files p.tree p.shape p.mode p.scripts)) (sym is.staging)
+            (subst (λ (t : Tables). IsWorldOver p.k t nothing_staged p.files (first_view p.k p.files p.tree p.shape p.mode p.scripts)) (sym is.tables) going));
         counts = subst (AreCounts p.counters.setup p.counters.threads) (sym is.history) is.counts;
         room = first_room;
       }
 
   -- and begins over the device
-  pub first_begun : StartsGoing → WasMounted p.k → p.mode ≢ Mode.Posix → AreInLimits p.scripts → ShowsAs p.k p.tree p.shape → HasSizesOf p.k.volume p.data → IsKept p × BeginsOver p.k p.mode p.scripts (seen p)
-  first_begun law was other limits shown sizes = (first_kept law was other limits shown sizes, record { tree = p.tree; shape = p.shape; files = p.data; shown = shown; world_is = first_seen })
+  pub first_begun : StartsGoing → WasMounted p.k → p.mode ≢ Mode.Posix → AreInLimits p.scripts → ShowsAs p.k p.tree p.shape → HasSizesOf p.k.volume p.files → IsKept p × BeginsOver p.k p.mode p.scripts (seen p)
+  first_begun law was other limits shown sizes = (first_kept law was other limits shown sizes, record { tree = p.tree; shape = p.shape; files = p.files; shown = shown; world_is = first_seen })

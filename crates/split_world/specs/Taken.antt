@@ -11,7 +11,7 @@ use Rattle.split_world.specs.declared.starting.Taken.{Taken}
 -- the tree that the device shows and the sizes of its files; nothing is open; and room for one call
 pub record IsTaken (k : View) (t : Taken) : Type 0 where
   pub shows : (shape : Shape) → HasNumbersOf k.volume.geometry shape → ShowsAs k t.tree shape
-  pub files : t.files.tables ≡ nothing_open
-  pub sizes : HasSizesOf k.volume t.data
+  pub files : t.tables.tables ≡ nothing_open
+  pub sizes : HasSizesOf k.volume t.files
   pub empty : t.spare.items ≡ []
   pub one : 1 ≤ vec_capacity t.spare

@@ -21,8 +21,8 @@ use world_rounds::{FileTable, KSplit, MountFault, OpenFiles, Staging, mount, no_
 #[derive(Drop)]
 struct Taken {
     tree: Tree,
-    files: OpenFiles,
-    data: FileTable,
+    tables: OpenFiles,
+    files: FileTable,
     spare: Vec<(Who, Call)>,
 }
 
@@ -33,13 +33,13 @@ fn taken_for(alloc: Global, k: &KSplit) -> Result<Taken, NoMemory>
 {
     laws::a_world_begins();
     let spare = Vec::with_capacity(alloc, 1)?;
-    let files = OpenFiles::new(alloc)?;
-    let data = table_of(alloc, k)?;
+    let tables = OpenFiles::new(alloc)?;
+    let files = table_of(alloc, k)?;
     let tree = k.tree(alloc)?;
     Ok(Taken {
         tree,
+        tables,
         files,
-        data,
         spare,
     })
 }
@@ -58,9 +58,9 @@ fn parts_with(alloc: Global, k: KSplit, taken: Taken, mode: Mode, scripts: Scrip
     let shape = geometry.shape();
     Parts {
         k,
-        files: taken.files,
+        tables: taken.tables,
         staging: Staging::new(alloc),
-        data: taken.data,
+        files: taken.files,
         geometry,
         base,
         tree: taken.tree,

@@ -27,8 +27,8 @@ use Rattle.world_begins.proofs.Turning.{off_kept, off_seen}
 
 -- ---- what a bare file says of the call
 
-bare_for : (p : Parts) (who : Who) (call : Call) → HasBareFile p.k p.files.tables p.staging p.data (seen p) who call → IsBareFor who call p
-bare_for p who (Call.Truncate h size) has = bare_truncates p.k p.files.tables p.staging p.data (seen p) who h size has
+bare_for : (p : Parts) (who : Who) (call : Call) → HasBareFile p.k p.tables.tables p.staging p.files (seen p) who call → IsBareFor who call p
+bare_for p who (Call.Truncate h size) has = bare_truncates p.k p.tables.tables p.staging p.files (seen p) who h size has
 bare_for p who (Call.Mkdir path) has = tt
 bare_for p who (Call.Rmdir path) has = tt
 bare_for p who (Call.Unlink path) has = tt
@@ -45,9 +45,9 @@ bare_for p who (Call.Fsync h) has = tt
 bare_for p who (Call.Stat path) has = tt
 bare_for p who (Call.List path) has = tt
 
-published_by : (old p : Parts) (who : Who) (call : Call) → old.claims ≡ p.claims → old.files ≡ p.files → HasBareFile p.k p.files.tables p.staging p.data (seen p) who call → Publishes who call (seen old) (seen p)
+published_by : (old p : Parts) (who : Who) (call : Call) → old.claims ≡ p.claims → old.files ≡ p.files → HasBareFile p.k p.tables.tables p.staging p.files (seen p) who call → Publishes who call (seen old) (seen p)
 published_by old p who (Call.Fsync h) claims files has =
-    bare_publishes p.k p.files.tables p.staging p.data (seen p) who h (seen old) (seen p) has (λ i. (claims i).items) (λ i. (files i).tables) refl
+    bare_publishes p.k p.tables.tables p.staging p.files (seen p) who h (seen old) (seen p) has (λ i. (claims i).items) (λ i. (files i).tables) refl
 published_by old p who (Call.Mkdir path) claims files has = tt
 published_by old p who (Call.Rmdir path) claims files has = tt
 published_by old p who (Call.Unlink path) claims files has = tt
@@ -134,28 +134,28 @@ all_stay w who = (λ q job other is. is, λ q job other is. is)
 
 module _ (p : Parts) (who : Who) (call : Call) (turn : IsTurn p who call) where
   -- the file that it waits for has its line
-  pub waited_line : (ino : ℕ) → WaitsForFile who call p.k p.files.tables (Some ino) → ino < length p.data.sizes
+  pub waited_line : (ino : ℕ) → WaitsForFile who call p.k p.tables.tables (Some ino) → ino < length p.files.sizes
   waited_line ino waits =
-      let now = stands_now p.k p.files.tables p.staging p.data (seen p) who call turn.calls in
-      let node = waits (seen p).geometry (kept_of (seen p) p.staging p.data) (length (seen p).history) (state_of (seen p)) now in
+      let now = stands_now p.k p.tables.tables p.staging p.files (seen p) who call turn.calls in
+      let node = waits (seen p).geometry (kept_of (seen p) p.staging p.files) (length (seen p).history) (state_of (seen p)) now in
       let below = used_below p.k.volume ino node.1 in
       let count = now.sizes.count in
       omega (arith, below, count)
 
   -- what may be published
-  pub may_first : StandsToPublish → (ino : ℕ) → WaitsForFile who call p.k p.files.tables (Some ino) → runs_in p.data ino ≢ [] → MayPublish ino (size_in p.data ino) (runs_in p.data ino) p.k
-  may_first law ino waits some = may_publish p.k p.files.tables p.staging p.data (seen p) who call turn.calls ino waits some law
+  pub may_first : StandsToPublish → (ino : ℕ) → WaitsForFile who call p.k p.tables.tables (Some ino) → runs_in p.files ino ≢ [] → MayPublish ino (size_in p.files ino) (runs_in p.files ino) p.k
+  may_first law ino waits some = may_publish p.k p.tables.tables p.staging p.files (seen p) who call turn.calls ino waits some law
 
-  pub few_first : (ino : ℕ) → 2 ^ 15 * (length (runs_in p.data ino) + 1) ≤ 2 ^ 25 + 2 ^ 15
+  pub few_first : (ino : ℕ) → 2 ^ 15 * (length (runs_in p.files ino) + 1) ≤ 2 ^ 25 + 2 ^ 15
   few_first ino =
-      let few = runs_of_file_few (seen p).geometry p.k p.files.tables (kept_of (seen p) p.staging p.data) true (length (seen p).history) (state_of (seen p)) (stands_now p.k p.files.tables p.staging p.data (seen p) who call turn.calls) ino in
+      let few = runs_of_file_few (seen p).geometry p.k p.tables.tables (kept_of (seen p) p.staging p.files) true (length (seen p).history) (state_of (seen p)) (stands_now p.k p.tables.tables p.staging p.files (seen p) who call turn.calls) ino in
       omega (arith, few)
 
   -- ---- nothing is to be published
 
-  bare_line : (found : Option ℕ) → WaitsForFile who call p.k p.files.tables found → IsBareLine found p.data → HasBareFile p.k p.files.tables p.staging p.data (seen p) who call
-  bare_line None waits bare = bare_waiting_none p.k p.files.tables p.staging p.data (seen p) who call turn.calls waits
-  bare_line (Some ino) waits bare = bare_waiting_some p.k p.files.tables p.staging p.data (seen p) who call ino turn.calls waits bare
+  bare_line : (found : Option ℕ) → WaitsForFile who call p.k p.tables.tables found → IsBareLine found p.files → HasBareFile p.k p.tables.tables p.staging p.files (seen p) who call
+  bare_line None waits bare = bare_waiting_none p.k p.tables.tables p.staging p.files (seen p) who call turn.calls waits
+  bare_line (Some ino) waits bare = bare_waiting_some p.k p.tables.tables p.staging p.files (seen p) who call ino turn.calls waits bare
 
   pub none_first : IsToPublish who call p None → (after : Supply) → is_on after ≡ true → IsPublished who call p p after
   none_first (inl plain) after on = record {
@@ -164,7 +164,7 @@ module _ (p : Parts) (who : Who) (call : Call) (turn : IsTurn p who call) where
     tables = refl;
     staging = refl;
     stay = all_stay (seen p) who;
-    cuts = plain_cuts call p.k p.data plain;
+    cuts = plain_cuts call p.k p.files plain;
     bare = plain_bare who call p plain;
     published = plain_published who call (seen p) (seen p) plain;
     on = on;
@@ -177,7 +177,7 @@ module _ (p : Parts) (who : Who) (call : Call) (turn : IsTurn p who call) where
         tables = refl;
         staging = refl;
         stay = all_stay (seen p) who;
-        cuts = bare_cuts p.k p.files.tables p.staging p.data (seen p) who call has;
+        cuts = bare_cuts p.k p.tables.tables p.staging p.files (seen p) who call has;
         bare = bare_for p who call has;
         published = published_by p p who call refl refl has;
         on = on;
@@ -185,17 +185,17 @@ module _ (p : Parts) (who : Who) (call : Call) (turn : IsTurn p who call) where
 
   -- ---- its file is published
 
-  module _ (ino : ℕ) (waits : WaitsForFile who call p.k p.files.tables (Some ino)) (some : runs_in p.data ino ≢ []) (l : View) (d : Files) where
+  module _ (ino : ℕ) (waits : WaitsForFile who call p.k p.tables.tables (Some ino)) (some : runs_in p.files ino ≢ []) (l : View) (d : Files) where
     abbrev q : Parts
-    q = record p { k = l; «data» = d }
+    q = record p { k = l; files = d }
 
-    pub file_first : IsPublishDone ino (size_in p.data ino) (runs_in p.data ino) p.k l → ChangesFile ino [] (size_in p.data ino) p.data d → PublishesFile ino p.k p.data l d
+    pub file_first : IsPublishDone ino (size_in p.files ino) (runs_in p.files ino) p.k l → ChangesFile ino [] (size_in p.files ino) p.files d → PublishesFile ino p.k p.files l d
         → (after : Supply) → is_on after ≡ true → IsPublished who call p q after
     file_first done clears publishes after on =
-        let has : HasBareFile q.k q.files.tables q.staging q.data (seen q) who call = bare_published p.k p.files.tables p.staging p.data (seen p) who call turn.calls ino waits some l d done clears publishes in
+        let has : HasBareFile q.k q.tables.tables q.staging q.files (seen q) who call = bare_published p.k p.tables.tables p.staging p.files (seen p) who call turn.calls ino waits some l d done clears publishes in
         record {
           turn = record {
-            calls = published_at p.k p.files.tables p.staging p.data (seen p) who call turn.calls ino waits some l d done clears publishes;
+            calls = published_at p.k p.tables.tables p.staging p.files (seen p) who call turn.calls ino waits some l d done clears publishes;
             counts = turn.counts;
             empty = turn.empty;
             room = record { items = turn.room.items; claims = turn.room.claims; jobs = turn.room.jobs; calls = turn.room.calls };
@@ -204,22 +204,22 @@ module _ (p : Parts) (who : Who) (call : Call) (turn : IsTurn p who call) where
           view_is = refl;
           tables = refl;
           staging = refl;
-          stay = others_published p.k p.files.tables p.staging p.data (seen p) who call turn.calls ino waits some l d done clears publishes;
-          cuts = bare_cuts q.k q.files.tables q.staging q.data (seen q) who call has;
+          stay = others_published p.k p.tables.tables p.staging p.files (seen p) who call turn.calls ino waits some l d done clears publishes;
+          cuts = bare_cuts q.k q.tables.tables q.staging q.files (seen q) who call has;
           bare = bare_for q who call has;
           published = published_by p q who call refl refl has;
           on = on;
         }
 
     -- or the power went in it
-    pub file_lost : d ≡ p.data → IsPublishStopped KFault.PowerLost ino (size_in p.data ino) (runs_in p.data ino) p.k l → LosesFile ino p.k p.data l
+    pub file_lost : d ≡ p.files → IsPublishStopped KFault.PowerLost ino (size_in p.files ino) (runs_in p.files ino) p.k l → LosesFile ino p.k p.files l
         → (r : Parts) → r ≡ record q { unfinished = Some (record { who = who; call = call }); acts = p.acts + 1; lost = true }
         → (after : Supply) → is_on after ≡ false → IsKept r × LosesCall who (seen p) (seen r) after
     file_lost d_same stopped loses r rest after off =
         let lost : Parts = record p { k = l } in
         let on_l : r ≡ record p { k = l; unfinished = Some (record { who = who; call = call }); acts = p.acts + 1; lost = true } =
-        rest ∙ (λ i. record p { k = l; «data» = d_same i; unfinished = Some (record { who = who; call = call }); acts = p.acts + 1; lost = true }) in (
-          off_kept p who call turn lost refl r on_l (publish_lost p.k p.files.tables p.staging p.data (seen p) who call turn.calls ino waits some l stopped loses),
+        rest ∙ (λ i. record p { k = l; files = d_same i; unfinished = Some (record { who = who; call = call }); acts = p.acts + 1; lost = true }) in (
+          off_kept p who call turn lost refl r on_l (publish_lost p.k p.tables.tables p.staging p.files (seen p) who call turn.calls ino waits some l stopped loses),
           subst (λ (v : WorldView). LosesCall who (seen p) v after) (sym (off_seen p who call turn lost refl r on_l))
-              (publish_loses p.k p.files.tables p.staging p.data (seen p) who call turn.calls ino waits some l stopped loses after off),
+              (publish_loses p.k p.tables.tables p.staging p.files (seen p) who call turn.calls ino waits some l stopped loses after off),
         )

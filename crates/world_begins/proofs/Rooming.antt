@@ -36,7 +36,7 @@ module _ (p : Parts) (kept : IsKept p) (history : Vec Item Global) (claims : Vec
 
   pub roomy_kept : IsKept roomy
   roomy_kept = record {
-    world = subst (IsWorldOver p.k p.files.tables p.staging p.data) (sym roomy_seen) kept.world;
+    world = subst (IsWorldOver p.k p.tables.tables p.staging p.files) (sym roomy_seen) kept.world;
     counts = subst (AreCounts p.counters.setup p.counters.threads) (sym items.items) kept.counts;
     room = record {
       items = λ on. omega (arith, kept.room.items on, items.len, items.capacity, same_jobs);
@@ -83,7 +83,7 @@ module _ (p : Parts) (kept : IsKept p) (awake : p.lost ≡ false) (who : Who) (c
 
   pub off_kept : next_of (seen p) who ≡ Some call → HasNone (seen p) who → IsSetUp p.scripts p.history.items who → IsKept off_parts
   off_kept next none up = record {
-    world = call_off p.k p.files.tables p.staging p.data (seen p) kept.world awake (who, call)
+    world = call_off p.k p.tables.tables p.staging p.files (seen p) kept.world awake (who, call)
         (open_called p.scripts p.history.items p.pending.items (seen p).unfinished (who, call) (kept.world.going awake).none_unfinished (record { call = next; set_up = up }) none kept.world.open_calls);
     counts = kept.counts;
     room = record {

@@ -51,8 +51,8 @@ module _ (p : Parts) (who : Who) (call : Call) (turn : IsTurn p who call) where
   pub one_act : p.acts + 1 < 2 ^ 64
   one_act = few_acts p turn_kept
 
-  abbrev now : StandsAt (seen p).geometry p.k p.files.tables (kept_of (seen p) p.staging p.data) true (length (seen p).history) (state_of (seen p))
-  now = stands_now p.k p.files.tables p.staging p.data (seen p) who call turn.calls
+  abbrev now : StandsAt (seen p).geometry p.k p.tables.tables (kept_of (seen p) p.staging p.files) true (length (seen p).history) (state_of (seen p))
+  now = stands_now p.k p.tables.tables p.staging p.files (seen p) who call turn.calls
 
   -- its mode is that of its state, strict or sync
   pub not_posix : p.mode ≢ Mode.Posix
@@ -62,30 +62,30 @@ module _ (p : Parts) (who : Who) (call : Call) (turn : IsTurn p who call) where
   mode_now = sym (has_setting p.tree p.shape p.mode).1 ∙ sym (setting_run (seen p).start (seen p).history).mode
 
   -- the jobs that are out need what their calls do
-  pub needs_are : JobsNeed → needs_by p.mode p.files.tables p.data p.pending.items ≡ needs (state_of (seen p)) now.jobs
+  pub needs_are : JobsNeed → needs_by p.mode p.tables.tables p.files p.pending.items ≡ needs (state_of (seen p)) now.jobs
   needs_are law =
-      ap (λ (mode : Mode). needs_by mode p.files.tables p.data p.pending.items) mode_now
-      ∙ law (seen p).geometry p.k p.files.tables (kept_of (seen p) p.staging p.data) true (length (seen p).history) (state_of (seen p)) now
+      ap (λ (mode : Mode). needs_by mode p.tables.tables p.files p.pending.items) mode_now
+      ∙ law (seen p).geometry p.k p.tables.tables (kept_of (seen p) p.staging p.files) true (length (seen p).history) (state_of (seen p)) now
 
   -- these needs are few
-  pub few_needs : JobsNeed → RoomIsKept → needs_by p.mode p.files.tables p.data p.pending.items < 2 ^ 64
+  pub few_needs : JobsNeed → RoomIsKept → needs_by p.mode p.tables.tables p.files p.pending.items < 2 ^ 64
   few_needs law numbers =
       let all = needs_are law in
       let fits : needs (state_of (seen p)) now.jobs ≤ room (state_of (seen p)) = (now.flying.device.world (words_of p.k.cells) (IsImage-words_of p.k.cells)).valid.room in
-      let kept : room (state_of (seen p)) ≡ room_in (data_blocks p.k.volume.geometry) p.data = numbers (seen p).geometry p.k p.files.tables (kept_of (seen p) p.staging p.data) true (length (seen p).history) (state_of (seen p)) now in
+      let kept : room (state_of (seen p)) ≡ room_in (data_blocks p.k.volume.geometry) p.files = numbers (seen p).geometry p.k p.tables.tables (kept_of (seen p) p.staging p.files) true (length (seen p).history) (state_of (seen p)) now in
       let most = now.order.whole.kept.geometry.most_blocks in
       omega (arith, all, fits, kept, most)
 
-  pub lines_there : OpenHaveLines → HaveLines p.files.tables p.data
-  lines_there law = law (seen p).geometry p.k p.files.tables (kept_of (seen p) p.staging p.data) true (length (seen p).history) (state_of (seen p)) now
+  pub lines_there : OpenHaveLines → HaveLines p.tables.tables p.files
+  lines_there law = law (seen p).geometry p.k p.tables.tables (kept_of (seen p) p.staging p.files) true (length (seen p).history) (state_of (seen p)) now
 
   -- K-Split, the open files and what is kept of files may be others
-  module _ (q : Parts) (same : q ≡ record p { k = q.k; files = q.files; staging = q.staging; «data» = q.data }) where
+  module _ (q : Parts) (same : q ≡ record p { k = q.k; tables = q.tables; staging = q.staging; files = q.files }) where
     abbrev pub moved : Parts
-    moved = record p { k = q.k; files = q.files; staging = q.staging; «data» = q.data }
+    moved = record p { k = q.k; tables = q.tables; staging = q.staging; files = q.files }
 
     abbrev pub moved_view : WorldView
-    moved_view = record (seen p) { disk = disk_of q.k q.files.tables q.staging q.data }
+    moved_view = record (seen p) { disk = disk_of q.k q.tables.tables q.staging q.files }
 
     -- an item may be added;
     pub may_add : MayAdd q who
@@ -114,10 +114,10 @@ module _ (p : Parts) (who : Who) (call : Call) (turn : IsTurn p who call) where
       pub returned_seen : seen r ≡ return_view
       returned_seen = added_seen who call outcome moved r on_moved turn.counts ∙ ap (λ (item : Item). (let v : WorldView = record moved_view { history = p.history.items ++ item ∷ []; acts = p.acts + 1 } in v)) (sym its_item)
 
-      pub returned_kept : IsWorldOver q.k q.files.tables q.staging q.data return_view → IsKept r
+      pub returned_kept : IsWorldOver q.k q.tables.tables q.staging q.files return_view → IsKept r
       returned_kept world =
           added_kept who call outcome moved r on_moved turn.counts room_for
-          (subst (λ (item : Item). IsWorldOver q.k q.files.tables q.staging q.data (record moved_view { history = p.history.items ++ item ∷ []; acts = p.acts + 1 })) its_item world)
+          (subst (λ (item : Item). IsWorldOver q.k q.tables.tables q.staging q.files (record moved_view { history = p.history.items ++ item ∷ []; acts = p.acts + 1 })) its_item world)
 
     -- ---- it became a job
 
@@ -137,9 +137,9 @@ module _ (p : Parts) (who : Who) (call : Call) (turn : IsTurn p who call) where
       longer : length r.pending.items ≡ length p.pending.items + 1
       longer = ap length pushed ∙ length-append p.pending.items (one ∷ [])
 
-      pub job_kept : IsWorldOver q.k q.files.tables q.staging q.data job_view → IsKept r
+      pub job_kept : IsWorldOver q.k q.tables.tables q.staging q.files job_view → IsKept r
       job_kept world = subst IsKept (sym rest) (record {
-        world = subst (IsWorldOver q.k q.files.tables q.staging q.data) (sym with_view) world;
+        world = subst (IsWorldOver q.k q.tables.tables q.staging q.files) (sym with_view) world;
         counts = turn.counts;
         room = record {
           items = λ on. (let room = turn.room.items in omega (arith, room, longer));
@@ -165,7 +165,7 @@ module _ (p : Parts) (who : Who) (call : Call) (turn : IsTurn p who call) where
       pub over_seen : seen r ≡ over_view
       over_seen = ap seen is_over
 
-      pub over_kept : IsWorldOver q.k q.files.tables q.staging q.data over_view → IsKept r
+      pub over_kept : IsWorldOver q.k q.tables.tables q.staging q.files over_view → IsKept r
       over_kept world = subst IsKept (sym is_over) (record {
         world = world;
         counts = turn.counts;
@@ -190,7 +190,7 @@ module _ (p : Parts) (who : Who) (call : Call) (turn : IsTurn p who call) where
       few_out : blocks_out q.k.cells p.pending.items ≤ length p.pending.items
       few_out = count_by-le-length (λ (x : JobOut). is_lent (cell q.k.cells (512 * slice_index x.blocks 0))) p.pending.items
 
-      pub off_kept : IsWorldOver q.k q.files.tables q.staging q.data off_view → IsKept r
+      pub off_kept : IsWorldOver q.k q.tables.tables q.staging q.files off_view → IsKept r
       off_kept world = subst IsKept (sym is_off) (record {
         world = world;
         counts = turn.counts;

@@ -52,54 +52,54 @@ job_pushed old new who call other draft its blocks call_is draft_is pushed =
     pushed ∙ (λ i. (let one : JobOut = record { who = who; call = call_is i; draft = draft_is i; blocks = blocks } in old ++ one ∷ []))
 
 module _ (p : Parts) (who : Who) (h : Handle) (at : Option ℕ) (x : List ℕ) (turn : IsTurn p who (call_of h at x)) (law : JobsNeed) (lines : OpenHaveLines) (taken : ℕ)
-    (taken_is : taken ≡ sum_by (λ (q : JobOut). need_by p.mode p.files.tables p.data q.who q.call) p.pending.items) where
+    (taken_is : taken ≡ sum_by (λ (q : JobOut). need_by p.mode p.tables.tables p.files q.who q.call) p.pending.items) where
   -- in the mode of the state
-  pub taken_now : taken ≡ sum_by (λ (q : JobOut). need_by (state_of (seen p)).mode p.files.tables p.data q.who q.call) p.pending.items
-  taken_now = taken_is ∙ ap (λ (mode : Mode). sum_by (λ (q : JobOut). need_by mode p.files.tables p.data q.who q.call) p.pending.items) (mode_now p who (call_of h at x) turn)
+  pub taken_now : taken ≡ sum_by (λ (q : JobOut). need_by (state_of (seen p)).mode p.tables.tables p.files q.who q.call) p.pending.items
+  taken_now = taken_is ∙ ap (λ (mode : Mode). sum_by (λ (q : JobOut). need_by mode p.tables.tables p.files q.who q.call) p.pending.items) (mode_now p who (call_of h at x) turn)
 
   -- WHAT IT ASKS
-  abbrev pub put_found : Found p.mode p.k p.files.tables p.staging p.data who (call_of h at x) taken
-  put_found = found_at p.k p.files.tables p.staging p.data (seen p) who h at x turn.calls p.mode (sym (mode_now p who (call_of h at x) turn)) law lines taken taken_now
+  abbrev pub put_found : Found p.mode p.k p.tables.tables p.staging p.files who (call_of h at x) taken
+  put_found = found_at p.k p.tables.tables p.staging p.files (seen p) who h at x turn.calls p.mode (sym (mode_now p who (call_of h at x) turn)) law lines taken taken_now
 
-  pub put_ends : FilesEnd p.k.volume p.data
-  put_ends = (going_now p.k p.files.tables p.staging p.data (seen p) who (call_of h at x) turn.calls).ends
+  pub put_ends : FilesEnd p.k.volume p.files
+  put_ends = (going_now p.k p.tables.tables p.staging p.files (seen p) who (call_of h at x) turn.calls).ends
 
   module _ (l : View) (s : Staged) (d : Files) where
     abbrev pub q : Parts
-    q = record p { k = l; staging = s; «data» = d }
+    q = record p { k = l; staging = s; files = d }
 
     -- IT RETURNED,
-    pub put_answered : (outcome : Outcome) → IsAnsweredBy p.mode who h at x p.k p.files.tables p.staging p.data taken outcome → l ≡ p.k → s ≡ p.staging → d ≡ p.data
+    pub put_answered : (outcome : Outcome) → IsAnsweredBy p.mode who h at x p.k p.tables.tables p.staging p.files taken outcome → l ≡ p.k → s ≡ p.staging → d ≡ p.files
         → (r : Parts) → IsAdded who (call_of h at x) outcome q r → (before after : Supply) → is_on after ≡ true → IsKept r × Returns who (seen p) (seen r) before after
     put_answered outcome answer k_same s_same d_same r added before after on =
-        let same : q ≡ p = (λ i. record p { k = k_same i; staging = s_same i; «data» = d_same i }) in
+        let same : q ≡ p = (λ i. record p { k = k_same i; staging = s_same i; files = d_same i }) in
         let on_p : IsAdded who (call_of h at x) outcome p r = subst (λ (y : Parts). IsAdded who (call_of h at x) outcome y r) same added in
-        let item = item_is p.k p.files.tables p.staging p.data (seen p) who h at x turn.calls p.mode (sym (mode_now p who (call_of h at x) turn)) law lines taken taken_now outcome answer in (
-          returned_kept p who (call_of h at x) turn p refl r outcome item on_p (answered p.k p.files.tables p.staging p.data (seen p) who h at x turn.calls p.mode (sym (mode_now p who (call_of h at x) turn)) law lines taken taken_now outcome answer),
+        let item = item_is p.k p.tables.tables p.staging p.files (seen p) who h at x turn.calls p.mode (sym (mode_now p who (call_of h at x) turn)) law lines taken taken_now outcome answer in (
+          returned_kept p who (call_of h at x) turn p refl r outcome item on_p (answered p.k p.tables.tables p.staging p.files (seen p) who h at x turn.calls p.mode (sym (mode_now p who (call_of h at x) turn)) law lines taken taken_now outcome answer),
           subst (λ (v : WorldView). Returns who (seen p) v before after) (sym (returned_seen p who (call_of h at x) turn p refl r outcome item on_p))
-              (answers p.k p.files.tables p.staging p.data (seen p) who h at x turn.calls p.mode (sym (mode_now p who (call_of h at x) turn)) law lines taken taken_now outcome answer before after on),
+              (answers p.k p.tables.tables p.staging p.files (seen p) who h at x turn.calls p.mode (sym (mode_now p who (call_of h at x) turn)) law lines taken taken_now outcome answer before after on),
         )
 
     -- it became a job,
-    pub put_began : KeepsMaps p.k.volume l.volume p.data d (filled_by p.mode p.files.tables who h) → (job : JobView) (blocks : List ℕ) → BeginsWrite p.mode who h at x p.k l p.files.tables p.staging s p.data d taken job blocks
+    pub put_began : KeepsMaps p.k.volume l.volume p.files d (filled_by p.mode p.tables.tables who h) → (job : JobView) (blocks : List ℕ) → BeginsWrite p.mode who h at x p.k l p.tables.tables p.staging s p.files d taken job blocks
         → (r : Parts) → r ≡ record q { pending = r.pending; acts = p.acts + 1 }
         → r.pending.items ≡ p.pending.items ++ record { who = who; call = call_of h at x; draft = job.draft; blocks = blocks } ∷ []
         → (after : Supply) → is_on after ≡ true → IsKept r × BeginsJob who (seen p) (seen r) after job
     put_began keeps job blocks begun r rest pushed after on =
         let one : JobOut = record { who = who; call = call_of h at x; draft = job.draft; blocks = blocks } in (
-          job_kept p who (call_of h at x) turn q refl r one rest pushed (job_begun p.k p.files.tables p.staging p.data (seen p) who h at x turn.calls p.mode (sym (mode_now p who (call_of h at x) turn)) law lines taken taken_now l s d keeps job blocks begun),
+          job_kept p who (call_of h at x) turn q refl r one rest pushed (job_begun p.k p.tables.tables p.staging p.files (seen p) who h at x turn.calls p.mode (sym (mode_now p who (call_of h at x) turn)) law lines taken taken_now l s d keeps job blocks begun),
           subst (λ (v : WorldView). BeginsJob who (seen p) v after job) (sym (job_seen p who (call_of h at x) turn q refl r one rest pushed))
-              (begins_job p.k p.files.tables p.staging p.data (seen p) who h at x turn.calls p.mode (sym (mode_now p who (call_of h at x) turn)) law lines taken taken_now l s d keeps job blocks begun after on),
+              (begins_job p.k p.tables.tables p.staging p.files (seen p) who h at x turn.calls p.mode (sym (mode_now p who (call_of h at x) turn)) law lines taken taken_now l s d keeps job blocks begun after on),
         )
 
     -- it was written in place, and its offset moved,
-    module _ (keeps : KeepsMaps p.k.volume l.volume p.data d (filled_by p.mode p.files.tables who h)) (writes : WritesNow p.mode who h at x p.k l p.files.tables p.staging s p.data d taken) where
-      pub put_may_move : CanMoveBy p.files.tables d who (call_of h at x)
-      put_may_move = may_move p.k p.files.tables p.staging p.data (seen p) who h at x turn.calls p.mode (sym (mode_now p who (call_of h at x) turn)) law lines taken taken_now l s d keeps writes
+    module _ (keeps : KeepsMaps p.k.volume l.volume p.files d (filled_by p.mode p.tables.tables who h)) (writes : WritesNow p.mode who h at x p.k l p.tables.tables p.staging s p.files d taken) where
+      pub put_may_move : CanMoveBy p.tables.tables d who (call_of h at x)
+      put_may_move = may_move p.k p.tables.tables p.staging p.files (seen p) who h at x turn.calls p.mode (sym (mode_now p who (call_of h at x) turn)) law lines taken taken_now l s d keeps writes
 
-      module _ (g : Parts) (tables : g.files.tables ≡ moved_by p.files.tables d who (call_of h at x)) where
+      module _ (g : Parts) (tables : g.tables.tables ≡ moved_by p.tables.tables d who (call_of h at x)) where
         abbrev pub with_offset : Parts
-        with_offset = record p { k = l; files = g.files; staging = s; «data» = d }
+        with_offset = record p { k = l; tables = g.tables; staging = s; files = d }
 
         -- as the World then shows it
         abbrev view_by : Tables → WorldView
@@ -108,29 +108,29 @@ module _ (p : Parts) (who : Who) (h : Handle) (at : Option ℕ) (x : List ℕ) (
         pub put_written : (outcome : Outcome) → outcome ≡ answer (Reply.Count (length x)) → (r : Parts) → IsAdded who (call_of h at x) outcome with_offset r
             → (before after : Supply) → is_on after ≡ true → TakesAStep before after → IsKept r × Returns who (seen p) (seen r) before after
         put_written outcome is r added before after on took =
-            let item = item_written p.k p.files.tables p.staging p.data (seen p) who h at x turn.calls p.mode (sym (mode_now p who (call_of h at x) turn)) law lines taken taken_now l s d keeps writes ∙ ap (item_with p.history.items who (call_of h at x)) (sym is) in (
+            let item = item_written p.k p.tables.tables p.staging p.files (seen p) who h at x turn.calls p.mode (sym (mode_now p who (call_of h at x) turn)) law lines taken taken_now l s d keeps writes ∙ ap (item_with p.history.items who (call_of h at x)) (sym is) in (
               returned_kept p who (call_of h at x) turn with_offset refl r outcome item added
-                  (subst (λ (u : Tables). IsWorldOver l u s d (view_by u)) (sym tables) (written p.k p.files.tables p.staging p.data (seen p) who h at x turn.calls p.mode (sym (mode_now p who (call_of h at x) turn)) law lines taken taken_now l s d keeps writes)),
+                  (subst (λ (u : Tables). IsWorldOver l u s d (view_by u)) (sym tables) (written p.k p.tables.tables p.staging p.files (seen p) who h at x turn.calls p.mode (sym (mode_now p who (call_of h at x) turn)) law lines taken taken_now l s d keeps writes)),
               subst (λ (v : WorldView). Returns who (seen p) v before after) (sym (returned_seen p who (call_of h at x) turn with_offset refl r outcome item added))
-                  (subst (λ (u : Tables). Returns who (seen p) (view_by u) before after) (sym tables) (writes_now p.k p.files.tables p.staging p.data (seen p) who h at x turn.calls p.mode (sym (mode_now p who (call_of h at x) turn)) law lines taken taken_now l s d keeps writes before after on took)),
+                  (subst (λ (u : Tables). Returns who (seen p) (view_by u) before after) (sym tables) (writes_now p.k p.tables.tables p.staging p.files (seen p) who h at x turn.calls p.mode (sym (mode_now p who (call_of h at x) turn)) law lines taken taken_now l s d keeps writes before after on took)),
             )
 
     -- the round is over,
-    pub put_over : KeepsMaps p.k.volume l.volume p.data d (filled_by p.mode p.files.tables who h) → (needed left : ℕ) → writing.EndsRound p.mode who h at x p.k l p.files.tables p.staging s p.data d taken needed left
+    pub put_over : KeepsMaps p.k.volume l.volume p.files d (filled_by p.mode p.tables.tables who h) → (needed left : ℕ) → writing.EndsRound p.mode who h at x p.k l p.tables.tables p.staging s p.files d taken needed left
         → (r : Parts) → r ≡ record q { over = Some (Over.Space needed left); acts = p.acts + 1 }
         → (after : Supply) → is_on after ≡ true → IsKept r × EndsRound who (seen p) (seen r) after needed left
     put_over keeps needed left ends r rest after on = (
-      over_kept p who (call_of h at x) turn q refl r needed left rest (write_over p.k p.files.tables p.staging p.data (seen p) who h at x turn.calls p.mode (sym (mode_now p who (call_of h at x) turn)) law lines taken taken_now l s d keeps needed left ends),
+      over_kept p who (call_of h at x) turn q refl r needed left rest (write_over p.k p.tables.tables p.staging p.files (seen p) who h at x turn.calls p.mode (sym (mode_now p who (call_of h at x) turn)) law lines taken taken_now l s d keeps needed left ends),
       subst (λ (v : WorldView). EndsRound who (seen p) v after needed left) (sym (over_seen p who (call_of h at x) turn q refl r needed left rest))
-          (write_ends_round p.k p.files.tables p.staging p.data (seen p) who h at x turn.calls p.mode (sym (mode_now p who (call_of h at x) turn)) law lines taken taken_now l s d keeps needed left ends after on),
+          (write_ends_round p.k p.tables.tables p.staging p.files (seen p) who h at x turn.calls p.mode (sym (mode_now p who (call_of h at x) turn)) law lines taken taken_now l s d keeps needed left ends after on),
     )
 
     -- or it lost its power.
-    pub put_lost : LosesWrite p.mode who (call_of h at x) p.k l p.files.tables p.staging p.data taken
+    pub put_lost : LosesWrite p.mode who (call_of h at x) p.k l p.tables.tables p.staging p.files taken
         → (r : Parts) → r ≡ record q { unfinished = Some (record { who = who; call = call_of h at x }); acts = p.acts + 1; lost = true }
         → (after : Supply) → is_on after ≡ false → IsKept r × LosesCall who (seen p) (seen r) after
     put_lost loses r rest after off = (
-      off_kept p who (call_of h at x) turn q refl r rest (power_lost p.k p.files.tables p.staging p.data (seen p) who h at x turn.calls p.mode (sym (mode_now p who (call_of h at x) turn)) law lines taken taken_now l s d loses),
+      off_kept p who (call_of h at x) turn q refl r rest (power_lost p.k p.tables.tables p.staging p.files (seen p) who h at x turn.calls p.mode (sym (mode_now p who (call_of h at x) turn)) law lines taken taken_now l s d loses),
       subst (λ (v : WorldView). LosesCall who (seen p) v after) (sym (off_seen p who (call_of h at x) turn q refl r rest))
-          (loses_call p.k p.files.tables p.staging p.data (seen p) who h at x turn.calls p.mode (sym (mode_now p who (call_of h at x) turn)) law lines taken taken_now l s d loses after off),
+          (loses_call p.k p.tables.tables p.staging p.files (seen p) who h at x turn.calls p.mode (sym (mode_now p who (call_of h at x) turn)) law lines taken taken_now l s d loses after off),
     )

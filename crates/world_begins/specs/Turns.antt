@@ -33,7 +33,7 @@ publishes_by call = false
 
 -- THE CALL MAY BEGIN: nothing keeps it waiting, all is kept, and there is room for one job more.
 pub record IsTurn (p : Parts) (who : Who) (call : Call) : Type 0 where
-  pub calls : AtCall p.k p.files.tables p.staging p.data (seen p) who call
+  pub calls : AtCall p.k p.tables.tables p.staging p.files (seen p) who call
   pub counts : AreCounts p.counters.setup p.counters.threads p.history.items
   pub empty : p.spare.items ≡ []
   pub room : HasRoomForOne p
@@ -41,18 +41,18 @@ pub record IsTurn (p : Parts) (who : Who) (call : Call) : Type 0 where
 
 -- nothing is staged of the file that a `truncate` gives a size
 abbrev pub IsBareFor : Who → Call → Parts → Type 0
-IsBareFor who (Call.Truncate h size) p = HasNothingStaged who h p.files.tables p.data
+IsBareFor who (Call.Truncate h size) p = HasNothingStaged who h p.tables.tables p.files
 IsBareFor who call p = Unit {0}
 
 -- WHAT IS STAGED OF ITS FILE IS PUBLISHED, where the call wants that: the World is at the call still, and what it cuts, gives a size or
 -- publishes has nothing staged. The open files and what the staging keeps are as before.
 pub record IsPublished (who : Who) (call : Call) (old new : Parts) (after : Supply) : Type 0 where
   pub turn : IsTurn new who call
-  pub tables : new.files.tables ≡ old.files.tables
+  pub tables : new.tables.tables ≡ old.tables.tables
   pub staging : new.staging ≡ old.staging
   pub view_is : seen new ≡ record (seen old) { disk = (seen new).disk }
   pub stay : OthersStay (seen old) (seen new) who
-  pub cuts : CutsNothing call new.k new.data
+  pub cuts : CutsNothing call new.k new.files
   pub bare : IsBareFor who call new
   pub published : Publishes who call (seen old) (seen new)
   pub on : is_on after ≡ true
@@ -69,5 +69,5 @@ IsBareLine (Some ino) files = runs_in files ino ≡ []
 
 -- The file of which something is to be published before the call: it waits for that file, of which something is staged. Or there is none.
 abbrev pub IsToPublish : Who → Call → Parts → Option ℕ → Type 0
-IsToPublish who call p None = (publishes_by call ≡ false) ⊎ ((found : Option ℕ) × WaitsForFile who call p.k p.files.tables found × IsBareLine found p.data)
-IsToPublish who call p (Some ino) = (publishes_by call ≡ true) × WaitsForFile who call p.k p.files.tables (Some ino) × (runs_in p.data ino ≢ [])
+IsToPublish who call p None = (publishes_by call ≡ false) ⊎ ((found : Option ℕ) × WaitsForFile who call p.k p.tables.tables found × IsBareLine found p.files)
+IsToPublish who call p (Some ino) = (publishes_by call ≡ true) × WaitsForFile who call p.k p.tables.tables (Some ino) × (runs_in p.files ino ≢ [])

@@ -43,9 +43,9 @@ module _ (who : Who) (call : Call) (outcome : Outcome) (p r : Parts) (added : Is
   added_seen = ap seen added.rest ∙ same_view
 
   -- AND ALL IS KEPT
-  pub added_kept : HasRoomForItem p → IsWorldOver p.k p.files.tables p.staging p.data (added_view p who call outcome) → IsKept r
+  pub added_kept : HasRoomForItem p → IsWorldOver p.k p.tables.tables p.staging p.files (added_view p who call outcome) → IsKept r
   added_kept room world = subst IsKept (sym added.rest) (record {
-    world = subst (IsWorldOver p.k p.files.tables p.staging p.data) (sym same_view) world;
+    world = subst (IsWorldOver p.k p.tables.tables p.staging p.files) (sym same_view) world;
     counts = counts_more p.counters.setup p.counters.threads r.counters.setup r.counters.threads p.history.items r.history.items (item_with p.history.items who call outcome) who items_are refl counts added.own added.others;
     room = record {
       items = λ on. omega (arith, room.items, added.len, added.capacity);

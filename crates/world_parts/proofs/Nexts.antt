@@ -30,20 +30,20 @@ none_busy s c = by (waits_for s c) where
 pub busy_home : (p : Parts) → IsKept p → p.lost ≡ false → p.lines_out ≡ false → (who : Who) (call : Call) → is_busy (state_of (seen p)) (files_out (seen p)) (who, call) ≡ false
 busy_home p kept awake home who call =
     ap (λ (ps : List JobOut). is_busy (state_of (seen p)) (files_by (state_of (seen p)) ps) (who, call)) at_home.lines.0 ∙ none_busy (state_of (seen p)) (who, call) where
-      at_home : StandsAt p.geometry p.k p.files.tables (kept_of (seen p) p.staging p.data) false (length p.history.items) (state_of (seen p))
-      at_home = subst (λ b. StandsAt p.geometry p.k p.files.tables (kept_of (seen p) p.staging p.data) b (length p.history.items) (state_of (seen p))) home ((kept.world.going awake).stands kept.world.mode)
+      at_home : StandsAt p.geometry p.k p.tables.tables (kept_of (seen p) p.staging p.files) false (length p.history.items) (state_of (seen p))
+      at_home = subst (λ b. StandsAt p.geometry p.k p.tables.tables (kept_of (seen p) p.staging p.files) b (length p.history.items) (state_of (seen p))) home ((kept.world.going awake).stands kept.world.mode)
 
 module _ (p : Parts) (kept : IsKept p) (awake : p.lost ≡ false) (out : p.lines_out ≡ true) (who : Who) (call : Call) where
-  stands : StandsAt p.geometry p.k p.files.tables (kept_of (seen p) p.staging p.data) true (length p.history.items) (state_of (seen p))
-  stands = subst (λ b. StandsAt p.geometry p.k p.files.tables (kept_of (seen p) p.staging p.data) b (length p.history.items) (state_of (seen p))) out ((kept.world.going awake).stands kept.world.mode)
+  stands : StandsAt p.geometry p.k p.tables.tables (kept_of (seen p) p.staging p.files) true (length p.history.items) (state_of (seen p))
+  stands = subst (λ b. StandsAt p.geometry p.k p.tables.tables (kept_of (seen p) p.staging p.files) b (length p.history.items) (state_of (seen p))) out ((kept.world.going awake).stands kept.world.mode)
 
-  pub busy_none : (found : Option (ℕ × Who)) → IsKeptBusy who call p.k p.files.tables p.pending.items found → IfNone found (is_busy (state_of (seen p)) (files_out (seen p)) (who, call) ≡ false)
-  busy_none None is = is p.geometry (kept_of (seen p) p.staging p.data) (length p.history.items) (state_of (seen p)) stands refl
+  pub busy_none : (found : Option (ℕ × Who)) → IsKeptBusy who call p.k p.tables.tables p.pending.items found → IfNone found (is_busy (state_of (seen p)) (files_out (seen p)) (who, call) ≡ false)
+  busy_none None is = is p.geometry (kept_of (seen p) p.staging p.files) (length p.history.items) (state_of (seen p)) stands refl
   busy_none (Some found) is = tt
 
-  pub busy_some : (found : Option (ℕ × Who)) → IsKeptBusy who call p.k p.files.tables p.pending.items found → IfSome found (λ (one : ℕ × Who). IsKeptBy (seen p) who call one.0 one.1)
+  pub busy_some : (found : Option (ℕ × Who)) → IsKeptBusy who call p.k p.tables.tables p.pending.items found → IfSome found (λ (one : ℕ × Who). IsKeptBy (seen p) who call one.0 one.1)
   busy_some None is = tt
-  busy_some (Some found) is = is p.geometry (kept_of (seen p) p.staging p.data) (length p.history.items) (state_of (seen p)) stands refl
+  busy_some (Some found) is = is p.geometry (kept_of (seen p) p.staging p.files) (length p.history.items) (state_of (seen p)) stands refl
 
 -- the call at the place that is counted is the next one
 pub next_is : (p : Parts) → IsKept p → (who : Who) (place : ℕ) (call : Option Call) → place ≡ count_for p.counters.setup p.counters.threads who → call ≡ slice_get (script_of p.scripts who) place → next_of (seen p) who ≡ call

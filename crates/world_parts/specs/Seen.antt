@@ -29,7 +29,7 @@ seen p = record {
   over = p.over;
   given_up = p.given_up;
   acts = p.acts;
-  disk = disk_of p.k p.files.tables p.staging p.data;
+  disk = disk_of p.k p.tables.tables p.staging p.files;
   lines_out = p.lines_out;
   home = p.home.items;
   first = p.first.items;
@@ -53,7 +53,7 @@ pub record HasRoom (p : Parts) : Type 0 where
 
 -- WHAT A WORLD KEEPS, while it goes on.
 pub record IsKept (p : Parts) : Type 0 where
-  pub world : IsWorldOver p.k p.files.tables p.staging p.data (seen p)
+  pub world : IsWorldOver p.k p.tables.tables p.staging p.files (seen p)
   pub counts : AreCounts p.counters.setup p.counters.threads p.history.items
   pub room : HasRoom p
 

@@ -22,7 +22,7 @@ pub fn busy_on(p: &Parts, who: Who, call: &Call) -> Option<(u32, Who)>
     if !p.lines_out {
         return None;
     }
-    keeper(&p.k, &p.files, &p.pending, who, call)
+    keeper(&p.k, &p.tables, &p.pending, who, call)
 }
 
 // Whether a caller can begin its next call, this one, while the round goes on and it has no job out.

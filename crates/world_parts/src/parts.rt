@@ -20,11 +20,11 @@ pub struct Parts {
     /// The volume on its device.
     pub k: KSplit,
     /// The open files of each caller.
-    pub files: OpenFiles,
+    pub tables: OpenFiles,
     /// The runs of staging blocks that are out, and how many blocks each staging file was given.
     pub staging: Staging,
     /// The size of each file, and the runs that are staged of it.
-    pub data: FileTable,
+    pub files: FileTable,
     /// The geometry of the volume.
     pub geometry: Geometry,
     /// The base of the sequence numbers of this lap's entries.

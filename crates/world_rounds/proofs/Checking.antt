@@ -35,11 +35,11 @@ gather_steps runs files old new few steps = steps_within (2 ^ 15 * (runs + files
 
 module _ (ready : EndsReady) (p : Parts) (l : View) (lines : List Part) (kept : IsKept p) (on : p.lost ≡ false) (none : p.pending.items ≡ []) (holds : HoldTheClaims (seen p) lines) (same : l ≡ record p.k { cells = l.cells })
     (orders : l.lost ≡ false → IsInOrder l) (back : LinesComeBack (log_line p.k.volume.geometry 0) lines p.k.cells l.cells) (home : (i : ℕ) → IsLogWord p.k.volume i → is_lent (cell l.cells i) ≡ false) where
-  stands : StandsAt p.geometry p.k p.files.tables (kept_of (seen p) p.staging p.data) p.lines_out (length p.history.items) (state_of (seen p))
+  stands : StandsAt p.geometry p.k p.tables.tables (kept_of (seen p) p.staging p.files) p.lines_out (length p.history.items) (state_of (seen p))
   stands = (kept.world.going on).stands kept.world.mode
 
   -- THE WORLD ENDS its round.
-  pub ending_of : IsEnding p.k l p.files.tables p.staging p.data (seen p) lines
+  pub ending_of : IsEnding p.k l p.tables.tables p.staging p.files (seen p) lines
   ending_of = record {
     world = kept.world;
     awake = on;
@@ -48,8 +48,8 @@ module _ (ready : EndsReady) (p : Parts) (l : View) (lines : List Part) (kept : 
     back = record { same = same; order = orders (ap (λ (x : View). x.lost) same ∙ stands.on); back = back; home = home };
   }
 
-  pub ready_now : ReadyToGather p.data l
-  ready_now = ready p.k l p.files.tables p.staging p.data (seen p) lines ending_of
+  pub ready_now : ReadyToGather p.files l
+  ready_now = ready p.k l p.tables.tables p.staging p.files (seen p) lines ending_of
 
   -- the base of the next lap
   pub next_base_fits : p.base + p.geometry.log < 2 ^ 64
@@ -58,17 +58,17 @@ module _ (ready : EndsReady) (p : Parts) (l : View) (lines : List Part) (kept : 
       let log : l.volume.geometry.log ≡ p.geometry.log = ap (λ (x : View). x.volume.geometry.log) same ∙ ap (λ (g : Geometry). g.log) stands.geometry in
       omega (arith, base, log, ready_now.next)
 
-  pub gathers_within : (old new : Supply) → Steps (2 ^ 15 * (total_runs p.data + file_count l.volume + 5)) old new → Steps (2 ^ 26) old new
-  gathers_within old new steps = gather_steps (total_runs p.data) (file_count l.volume) old new ready_now.few steps
+  pub gathers_within : (old new : Supply) → Steps (2 ^ 15 * (total_runs p.files + file_count l.volume + 5)) old new → Steps (2 ^ 26) old new
+  gathers_within old new steps = gather_steps (total_runs p.files) (file_count l.volume) old new ready_now.few steps
 
 -- ---- done
 
 module _ (law : GoesIntoNextRound) (applies : AppliesClaims) (p q : Parts) (l m : View) (then : Staged) (table : Files) (lines : List Part) (kept : IsKept p) (may : MayCheckpoint (seen p) lines)
-    (ending : IsEnding p.k l p.files.tables p.staging p.data (seen p) lines) (done : IsGatherAnswer p.data l then table m (Ok Commit.Done)) (claims : q.claims.items ≡ []) (no_claim : vec_len q.claims ≡ 0)
+    (ending : IsEnding p.k l p.tables.tables p.staging p.files (seen p) lines) (done : IsGatherAnswer p.files l then table m (Ok Commit.Done)) (claims : q.claims.items ≡ []) (no_claim : vec_len q.claims ≡ 0)
     (is : q ≡ record p {
       k = m;
       staging = then;
-      «data» = table;
+      files = table;
       base = p.base + p.geometry.log;
       settled = length p.history.items;
       claims = q.claims;
@@ -81,7 +81,7 @@ module _ (law : GoesIntoNextRound) (applies : AppliesClaims) (p q : Parts) (l m 
   rest = record p {
     k = m;
     staging = then;
-    «data» = table;
+    files = table;
     base = p.base + p.geometry.log;
     settled = length p.history.items;
     claims = q.claims;
@@ -91,15 +91,15 @@ module _ (law : GoesIntoNextRound) (applies : AppliesClaims) (p q : Parts) (l m 
     lines_out = false;
   }
 
-  next_seen : seen rest ≡ next_view (seen p) (disk_of m p.files.tables then table)
-  next_seen = ap (λ (cs : List (ℕ × Draft)). (let v : WorldView = record (next_view (seen p) (disk_of m p.files.tables then table)) { claims = cs } in v)) claims
+  next_seen : seen rest ≡ next_view (seen p) (disk_of m p.tables.tables then table)
+  next_seen = ap (λ (cs : List (ℕ × Draft)). (let v : WorldView = record (next_view (seen p) (disk_of m p.tables.tables then table)) { claims = cs } in v)) claims
 
   none_out : length p.pending.items ≡ 0
   none_out = ap (λ xs. length xs) ending.none_out
 
   rest_kept : IsKept rest
   rest_kept = record {
-    world = subst (λ (w : WorldView). IsWorldOver m p.files.tables then table w) (sym next_seen) (law p.k l m p.files.tables p.staging then p.data table (seen p) lines ending may done);
+    world = subst (λ (w : WorldView). IsWorldOver m p.tables.tables then table w) (sym next_seen) (law p.k l m p.tables.tables p.staging then p.files table (seen p) lines ending may done);
     counts = kept.counts;
     room = record {
       items = kept.room.items;
@@ -113,7 +113,7 @@ module _ (law : GoesIntoNextRound) (applies : AppliesClaims) (p q : Parts) (l m 
   pub next_kept : IsKept q
   next_kept = subst IsKept (sym is) rest_kept
 
-  disk_is : (seen q).disk ≡ disk_of m p.files.tables then table
+  disk_is : (seen q).disk ≡ disk_of m p.tables.tables then table
   disk_is = ap (λ (x : Parts). (seen x).disk) is
 
   -- WHAT IT ANSWERS: nothing is staged any more
@@ -122,18 +122,18 @@ module _ (law : GoesIntoNextRound) (applies : AppliesClaims) (p q : Parts) (l m 
     awake = ending.awake;
     on = on;
     new_is = ap seen is ∙ (next_seen ∙ ap (next_view (seen p)) (sym disk_is));
-    applied = subst (AreClaimsApplied p.claims.items) (sym disk_is) (applies p.k l m p.files.tables p.staging then p.data table (seen p) lines ending done);
+    applied = subst (AreClaimsApplied p.claims.items) (sym disk_is) (applies p.k l m p.tables.tables p.staging then p.files table (seen p) lines ending done);
     staging = ap (λ (d : Disk). d.staging) disk_is ∙ done.2.staging;
     tables = ap (λ (d : Disk). d.tables) disk_is;
   }
 
 -- ---- the power went in it
 
-module _ (law : LosesRoundInside) (p : Parts) (l m : View) (then : Staged) (table : Files) (lines : List Part) (kept : IsKept p) (ending : IsEnding p.k l p.files.tables p.staging p.data (seen p) lines)
-    (cut : IsGatherAnswer p.data l then table m (Ok Commit.PowerLost)) where
-  pub inside_kept : IsKept (record p { k = m; staging = then; «data» = table; acts = p.acts + 1; lines_out = false; lost = true })
+module _ (law : LosesRoundInside) (p : Parts) (l m : View) (then : Staged) (table : Files) (lines : List Part) (kept : IsKept p) (ending : IsEnding p.k l p.tables.tables p.staging p.files (seen p) lines)
+    (cut : IsGatherAnswer p.files l then table m (Ok Commit.PowerLost)) where
+  pub inside_kept : IsKept (record p { k = m; staging = then; files = table; acts = p.acts + 1; lines_out = false; lost = true })
   inside_kept = record {
-    world = law p.k l m p.files.tables p.staging then p.data table (seen p) lines ending cut;
+    world = law p.k l m p.tables.tables p.staging then p.files table (seen p) lines ending cut;
     counts = kept.counts;
     room = record {
       items = λ on. no_both true refl on _;
@@ -150,15 +150,15 @@ module _ (law : LosesRoundBefore) (p q : Parts) (lines : List Part) (kept : IsKe
   abbrev kept_rest : Parts
   kept_rest = record p { home = q.home; lines_out = false }
 
-  view_before : seen kept_rest ≡ record (lost_round (seen p) p.acts (disk_of p.k p.files.tables p.staging p.data) lines) { lost = p.lost }
+  view_before : seen kept_rest ≡ record (lost_round (seen p) p.acts (disk_of p.k p.tables.tables p.staging p.files) lines) { lost = p.lost }
   view_before = ap (λ (xs : List Part). (let v : WorldView = record (seen p) { lines_out = false; home = xs } in v)) home
 
-  lost_before : record (lost_round (seen p) p.acts (disk_of p.k p.files.tables p.staging p.data) lines) { lost = p.lost } ≡ lost_round (seen p) p.acts (disk_of p.k p.files.tables p.staging p.data) lines
-  lost_before = ap (λ b. (let v : WorldView = record (lost_round (seen p) p.acts (disk_of p.k p.files.tables p.staging p.data) lines) { lost = b } in v)) off
+  lost_before : record (lost_round (seen p) p.acts (disk_of p.k p.tables.tables p.staging p.files) lines) { lost = p.lost } ≡ lost_round (seen p) p.acts (disk_of p.k p.tables.tables p.staging p.files) lines
+  lost_before = ap (λ b. (let v : WorldView = record (lost_round (seen p) p.acts (disk_of p.k p.tables.tables p.staging p.files) lines) { lost = b } in v)) off
 
   kept_rest_kept : IsKept kept_rest
   kept_rest_kept = record {
-    world = subst (λ (w : WorldView). IsWorldOver p.k p.files.tables p.staging p.data w) (sym (view_before ∙ lost_before)) (law p.k p.files.tables p.staging p.data (seen p) lines kept.world off may.none_out may.lines_are);
+    world = subst (λ (w : WorldView). IsWorldOver p.k p.tables.tables p.staging p.files w) (sym (view_before ∙ lost_before)) (law p.k p.tables.tables p.staging p.files (seen p) lines kept.world off may.none_out may.lines_are);
     counts = kept.counts;
     room = record {
       items = kept.room.items;

@@ -55,12 +55,12 @@ module _ (whole : EndsRunWhole) (empty : EndsRunEmpty) (loses : LosesRun) (p q :
   whole_so : (power : Supply) → HasGathered p q lines (Ok Commit.Done) → is_on power ≡ true → IsEnded (seen p) power (Ok (Ended.Whole left.pm left.history))
   whole_so power gathered paid =
       let is_left : IsLeft (seen p) left.pm p.history.items [] =
-      left_by p q.k left.pm [] pm_is (whole p.k gathered.home q.k p.files.tables p.staging q.staging p.data q.data (seen p) lines gathered.ending gathered.gathered)
+      left_by p q.k left.pm [] pm_is (whole p.k gathered.home q.k p.tables.tables p.staging q.staging p.files q.files (seen p) lines gathered.ending gathered.gathered)
       in (
         on,
         paid,
         subst (λ (items : List Item). IsLeft (seen p) left.pm items []) (sym history_is) is_left,
-        empty_by p.geometry q.k left.pm pm_is (empty p.k gathered.home q.k p.files.tables p.staging q.staging p.data q.data (seen p) lines gathered.ending gathered.gathered),
+        empty_by p.geometry q.k left.pm pm_is (empty p.k gathered.home q.k p.tables.tables p.staging q.staging p.files q.files (seen p) lines gathered.ending gathered.gathered),
         tree_by (seen p) left.pm kept.world.mode is_left,
       )
 
@@ -69,7 +69,7 @@ module _ (whole : EndsRunWhole) (empty : EndsRunEmpty) (loses : LosesRun) (p q :
   lost_so power gathered paid out = (
     inr paid,
     subst (λ (items : List Item). IsLeft (seen p) left.pm items (calls_out (seen p))) (sym history_is)
-        (left_by p q.k left.pm (calls_out (seen p)) pm_is (loses p.k gathered.home q.k p.files.tables p.staging q.staging p.data q.data (seen p) lines gathered.ending gathered.gathered)),
+        (left_by p q.k left.pm (calls_out (seen p)) pm_is (loses p.k gathered.home q.k p.tables.tables p.staging q.staging p.files q.files (seen p) lines gathered.ending gathered.gathered)),
     out,
   )
 

@@ -56,7 +56,7 @@ runs_same old new ino count same = elim (cases_lt ino (length old.sizes)) [
 ]
 
 module _ (p : Parts) (kept : IsKept p) (awake : p.lost ≡ false) (out : p.lines_out ≡ true) (job : FilledView) (q : JobOut) (is_out : IsFilledOut (seen p) q job) where
-  going : IsGoing p.k p.files.tables p.staging p.data (seen p)
+  going : IsGoing p.k p.tables.tables p.staging p.files (seen p)
   going = kept.world.going awake
 
   pub callers : AllPairs AreOfTwoThreads p.pending.items
@@ -66,8 +66,8 @@ module _ (p : Parts) (kept : IsKept p) (awake : p.lost ≡ false) (out : p.lines
   pub taken_is : (taken : JobOut) → In taken p.pending.items → taken.who ≡ job.who → taken ≡ q
   taken_is taken there own = one_job p.pending.items taken q callers there is_out.there (own ∙ is_out.who)
 
-  pub may_finish : (call : Call) → call ≡ q.call → CanFinish p.k job p.files.tables p.data call
-  may_finish call same = subst (CanFinish p.k job p.files.tables p.data) (sym same) (can_finish p.k p.files.tables p.staging p.data (seen p) kept.world awake out q job is_out)
+  pub may_finish : (call : Call) → call ≡ q.call → CanFinish p.k job p.tables.tables p.files call
+  may_finish call same = subst (CanFinish p.k job p.tables.tables p.files) (sym same) (can_finish p.k p.tables.tables p.staging p.files (seen p) kept.world awake out q job is_out)
 
   pub room_for_claim : vec_len p.claims < vec_capacity p.claims
   room_for_claim = omega (arith, kept.room.claims_on awake, some_in p.pending.items q is_out.there)
@@ -88,24 +88,24 @@ module _ (p : Parts) (kept : IsKept p) (awake : p.lost ≡ false) (out : p.lines
   })
 
   pub answers_so : (step (state_of (seen p)) q.who q.call).outcome ≡ answer (Reply.Count (length (put_bytes_of q.call)))
-  answers_so = job_answers p.geometry p.k p.files.tables _ p.lines_out (length p.history.items) (state_of (seen p)) (going.stands kept.world.mode) q is_out.there
+  answers_so = job_answers p.geometry p.k p.tables.tables _ p.lines_out (length p.history.items) (state_of (seen p)) (going.stands kept.world.mode) q is_out.there
 
   -- ---- what it leaves
 
   module _ (law : EndFinished) (slot : ℕ) (taken : JobOut) (same : taken ≡ q) (outcome : Outcome) (replied : outcome ≡ answer (Reply.Count (length (put_bytes_of taken.call))))
       (k : View) (files : OpenState) (laid : Files) (claims : Vec (ℕ × Draft) Global) (pending : Vec JobOut Global) (left : pending.items ≡ without job.who p.pending.items) (k_is : k ≡ record p.k { cells = k.cells })
       (claimed : claims.items ≡ p.claims.items ++ (slot, job.draft) ∷ []) (capacity : vec_capacity claims ≡ vec_capacity p.claims)
-      (left_so : LeavesFinished p.k job (has p.k p.files.tables p.staging p.data (seen p) kept.world awake out q job is_out) slot k files.tables laid) where
+      (left_so : LeavesFinished p.k job (has p.k p.tables.tables p.staging p.files (seen p) kept.world awake out q job is_out) slot k files.tables laid) where
     abbrev pub middle : Parts
-    middle = record p { k = k; files = files; «data» = laid; claims = claims; pending = pending }
+    middle = record p { k = k; tables = files; files = laid; claims = claims; pending = pending }
 
     abbrev then_view : WorldView
-    then_view = finish_view p.k p.files.tables p.staging p.data (seen p) kept.world awake out q job is_out slot k files.tables laid
+    then_view = finish_view p.k p.tables.tables p.staging p.files (seen p) kept.world awake out q job is_out slot k files.tables laid
 
     world_then : IsWorldOver k files.tables p.staging laid then_view
     world_then =
-        finished_on p.k p.files.tables p.staging p.data (seen p) kept.world awake out q job is_out slot k files.tables laid k_is left_so
-        (finished_ends law p.k p.files.tables p.staging p.data (seen p) kept.world awake out q job is_out slot k files.tables laid k_is left_so)
+        finished_on p.k p.tables.tables p.staging p.files (seen p) kept.world awake out q job is_out slot k files.tables laid k_is left_so
+        (finished_ends law p.k p.tables.tables p.staging p.files (seen p) kept.world awake out q job is_out slot k files.tables laid k_is left_so)
 
     out_is : (step (state_of (seen p)) q.who q.call).outcome ≡ outcome
     out_is = answers_so ∙ ap (λ (x : JobOut). answer (Reply.Count (length (put_bytes_of x.call)))) (sym same) ∙ sym replied
@@ -151,13 +151,13 @@ module _ (p : Parts) (kept : IsKept p) (awake : p.lost ≡ false) (out : p.lines
       ino_is : job.draft.ino ≡ q.draft.ino
       ino_is = ap (λ (d : Draft). d.ino) is_out.draft
 
-      below : job.draft.ino < length p.data.sizes
-      below = let low = has_size p.k p.files.tables p.staging p.data (seen p) kept.world awake out q job is_out in omega (arith, low, ino_is)
+      below : job.draft.ino < length p.files.sizes
+      below = let low = has_size p.k p.tables.tables p.staging p.files (seen p) kept.world awake out q job is_out in omega (arith, low, ino_is)
 
       disk_so : disk_of k files.tables p.staging laid ≡ record (seen p).disk { cells = k.cells; tables = files.tables; overlays = overlays_of laid; sizes = laid.sizes }
       disk_so = ap (λ (x : View). disk_of x files.tables p.staging laid) k_is
 
-      pub finished_so : ChangesFile job.draft.ino (runs_in p.data job.draft.ino ++ run_of job.draft ∷ []) job.draft.size p.data laid → (power : Supply) → is_on power ≡ true
+      pub finished_so : ChangesFile job.draft.ino (runs_in p.files job.draft.ino ++ run_of job.draft ∷ []) job.draft.size p.files laid → (power : Supply) → is_on power ≡ true
           → Finishes slot q (seen p) (seen r) power
       finished_so lays power on = subst (λ (v : WorldView). Finishes slot q (seen p) v power) seen_then (record {
         awake = awake;
@@ -166,12 +166,12 @@ module _ (p : Parts) (kept : IsKept p) (awake : p.lost ≡ false) (out : p.lines
         new_is = refl;
         disk = disk_so;
         others = λ ino apart. (
-          runs_same p.data laid ino (ap length lays.sizes ∙ length-set p.data.sizes job.draft.ino job.draft.size) (lays.others ino (λ same. apart (same ∙ ino_is))),
-          ap (λ (xs : List ℕ). slice_index xs ino) lays.sizes ∙ get_or-set_other p.data.sizes job.draft.ino ino job.draft.size 0 (λ same. apart (same ∙ ino_is)),
+          runs_same p.files laid ino (ap length lays.sizes ∙ length-set p.files.sizes job.draft.ino job.draft.size) (lays.others ino (λ same. apart (same ∙ ino_is))),
+          ap (λ (xs : List ℕ). slice_index xs ino) lays.sizes ∙ get_or-set_other p.files.sizes job.draft.ino ino job.draft.size 0 (λ same. apart (same ∙ ino_is)),
         );
         runs = subst (λ (d : Draft). runs_on (disk_of k files.tables p.staging laid) d.ino ≡ runs_on (seen p).disk d.ino ++ run_of d ∷ []) is_out.draft
-            (runs_at laid job.draft.ino (omega (arith, below, ap length lays.sizes, length-set p.data.sizes job.draft.ino job.draft.size)) ∙ lays.runs_are ∙ ap (λ xs. xs ++ run_of job.draft ∷ []) (sym (runs_at p.data job.draft.ino below)));
-        size = subst (λ (d : Draft). slice_index laid.sizes d.ino ≡ d.size) is_out.draft (ap (λ (xs : List ℕ). slice_index xs job.draft.ino) lays.sizes ∙ get_or-set_same p.data.sizes job.draft.ino job.draft.size 0 below);
-        stay = others_on p.k p.files.tables p.staging p.data (seen p) kept.world awake out q job is_out slot k files.tables laid k_is left_so
-            (finished_ends law p.k p.files.tables p.staging p.data (seen p) kept.world awake out q job is_out slot k files.tables laid k_is left_so);
+            (runs_at laid job.draft.ino (omega (arith, below, ap length lays.sizes, length-set p.files.sizes job.draft.ino job.draft.size)) ∙ lays.runs_are ∙ ap (λ xs. xs ++ run_of job.draft ∷ []) (sym (runs_at p.files job.draft.ino below)));
+        size = subst (λ (d : Draft). slice_index laid.sizes d.ino ≡ d.size) is_out.draft (ap (λ (xs : List ℕ). slice_index xs job.draft.ino) lays.sizes ∙ get_or-set_same p.files.sizes job.draft.ino job.draft.size 0 below);
+        stay = others_on p.k p.tables.tables p.staging p.files (seen p) kept.world awake out q job is_out slot k files.tables laid k_is left_so
+            (finished_ends law p.k p.tables.tables p.staging p.files (seen p) kept.world awake out q job is_out slot k files.tables laid k_is left_so);
       })

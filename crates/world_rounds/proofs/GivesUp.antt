@@ -34,7 +34,7 @@ use Rattle.world_rounds.proofs.Finishes.{callers}
 
 module _ (p : Parts) (kept : IsKept p) (awake : p.lost ≡ false) (out : p.lines_out ≡ true) (job : FilledView) (q : JobOut) (is_out : IsFilledOut (seen p) q job) where
   pub may_give_up : CanGiveUp p.k job p.staging
-  may_give_up = can_give_up p.k p.files.tables p.staging p.data (seen p) kept.world awake out q job is_out
+  may_give_up = can_give_up p.k p.tables.tables p.staging p.files (seen p) kept.world awake out q job is_out
 
   pub few_given : p.given_up + 1 < 2 ^ 32
   few_given = let most = kept.world.counted.out in omega (arith, most)
@@ -44,13 +44,13 @@ module _ (p : Parts) (kept : IsKept p) (awake : p.lost ≡ false) (out : p.lines
     abbrev pub given_parts : Parts
     given_parts = record p { k = k; staging = staging; pending = pending; over = Some over; given_up = p.given_up + 1 }
 
-    left_so : LeavesGivenUp p.k job (has p.k p.files.tables p.staging p.data (seen p) kept.world awake out q job is_out) k staging
-    left_so = leaves (has p.k p.files.tables p.staging p.data (seen p) kept.world awake out q job is_out) refl
+    left_so : LeavesGivenUp p.k job (has p.k p.tables.tables p.staging p.files (seen p) kept.world awake out q job is_out) k staging
+    left_so = leaves (has p.k p.tables.tables p.staging p.files (seen p) kept.world awake out q job is_out) refl
 
     pending_is : without q.who p.pending.items ≡ pending.items
     pending_is = ap (λ (w : Who). without w p.pending.items) (sym is_out.who) ∙ sym left
 
-    view_is : give_view p.k p.files.tables p.staging p.data (seen p) kept.world awake out q job is_out full k staging ≡ seen given_parts
+    view_is : give_view p.k p.tables.tables p.staging p.files (seen p) kept.world awake out q job is_out full k staging ≡ seen given_parts
     view_is = λ i. record (seen given_parts) { pending = pending_is i; over = Some (sym over_is i) }
 
     one_less : length pending.items + 1 ≡ length p.pending.items
@@ -58,7 +58,7 @@ module _ (p : Parts) (kept : IsKept p) (awake : p.lost ≡ false) (out : p.lines
 
     pub given_kept : IsKept given_parts
     given_kept = record {
-      world = subst (IsWorldOver k p.files.tables staging p.data) view_is (given_on p.k p.files.tables p.staging p.data (seen p) kept.world awake out q job is_out full k staging k_is runs left_so);
+      world = subst (IsWorldOver k p.tables.tables staging p.files) view_is (given_on p.k p.tables.tables p.staging p.files (seen p) kept.world awake out q job is_out full k staging k_is runs left_so);
       counts = kept.counts;
       room = record {
         items = λ on. omega (arith, kept.room.items awake, one_less);
@@ -70,19 +70,19 @@ module _ (p : Parts) (kept : IsKept p) (awake : p.lost ≡ false) (out : p.lines
     }
 
     -- ITS BLOCKS ARE AT HOME
-    now : StandsAt p.geometry k p.files.tables (given_up (kept_of (seen p) p.staging p.data) q staging) true (length p.history.items) (state_of (seen p))
+    now : StandsAt p.geometry k p.tables.tables (given_up (kept_of (seen p) p.staging p.files) q staging) true (length p.history.items) (state_of (seen p))
     now = left_so.stands
 
-    was : StandsAt p.geometry p.k p.files.tables (kept_of (seen p) p.staging p.data) true (length p.history.items) (state_of (seen p))
-    was = standing p.k p.files.tables p.staging p.data (seen p) kept.world awake out q job is_out
+    was : StandsAt p.geometry p.k p.tables.tables (kept_of (seen p) p.staging p.files) true (length p.history.items) (state_of (seen p))
+    was = standing p.k p.tables.tables p.staging p.files (seen p) kept.world awake out q job is_out
 
     in_data : (b : ℕ) → In b q.blocks → is_data_block p.k.volume.geometry b ≡ true
     in_data b at =
-        let its = its_job p.geometry p.k p.files.tables (kept_of (seen p) p.staging p.data) true (length p.history.items) (state_of (seen p)) was q is_out.there in
-        let stands = stood p.geometry p.k p.files.tables (kept_of (seen p) p.staging p.data) true (length p.history.items) (state_of (seen p)) was its.job its.there in
+        let its = its_job p.geometry p.k p.tables.tables (kept_of (seen p) p.staging p.files) true (length p.history.items) (state_of (seen p)) was q is_out.there in
+        let stands = stood p.geometry p.k p.tables.tables (kept_of (seen p) p.staging p.files) true (length p.history.items) (state_of (seen p)) was its.job its.there in
         let kind = subst (λ (d : Draft). (inode p.k.volume d.staging).kind ≡ Staging) its.draft stands.staging in
         let place = staged_of p.k.volume q b (was.blocks q is_out.there) at in
-        in_data_block p.k.volume (world_now p.geometry p.k p.files.tables (kept_of (seen p) p.staging p.data) true (length p.history.items) (state_of (seen p)) was).valid.stands.sane q.draft place.0 b kind place.2
+        in_data_block p.k.volume (world_now p.geometry p.k p.tables.tables (kept_of (seen p) p.staging p.files) true (length p.history.items) (state_of (seen p)) was).valid.stands.sane q.draft place.0 b kind place.2
 
     no_log : (i : ℕ) → In (i / 512) q.blocks → (slot : ℕ) → slot < k.volume.geometry.log → i / 8 ≡ log_line k.volume.geometry slot → ⊥
     no_log i at slot below place =
@@ -95,7 +95,7 @@ module _ (p : Parts) (kept : IsKept p) (awake : p.lost ≡ false) (out : p.lines
     no_job i at j there staged =
         let its = pending_of (without q.who p.pending.items) now.jobs j now.jobs_are there in
         let other = left_of q.who p.pending.items its.0 its.1 in
-        (stands_apart p.geometry p.k p.files.tables (kept_of (seen p) p.staging p.data) true (length p.history.items) (state_of (seen p)) q job.loans was is_out.there is_out.blocks).1
+        (stands_apart p.geometry p.k p.tables.tables (kept_of (seen p) p.staging p.files) true (length p.history.items) (state_of (seen p)) q job.loans was is_out.there is_out.blocks).1
         its.0 (i / 512) other.0 other.1 at (block_of k.volume its.0 (i / 512) (now.blocks its.0 its.1) (subst (λ (d : Draft). IsStagedIn k.volume d (i / 512)) its.2 staged))
 
     pub home_now : AreBlocksHome q.blocks k.cells
@@ -107,9 +107,9 @@ module _ (p : Parts) (kept : IsKept p) (awake : p.lost ≡ false) (out : p.lines
     pub given_so : GivesUp full q (seen p) (seen given_parts)
     given_so = record {
       new_is = sym view_is;
-      disk = λ on. ap (λ (x : View). disk_of x p.files.tables staging p.data) k_is;
+      disk = λ on. ap (λ (x : View). disk_of x p.tables.tables staging p.files) k_is;
       run_back = λ on. subst (λ (d : Draft). IsGivenBack (reserved_run d) p.staging staging) is_out.draft run_back;
       back = home_now;
-      homes = homes_on p.k p.files.tables p.staging p.data (seen p) kept.world awake out q job is_out (seen given_parts);
-      stay = subst (λ (v : WorldView). OthersStay (seen p) v q.who) view_is (others_given_on p.k p.files.tables p.staging p.data (seen p) kept.world awake out q job is_out full k staging k_is runs left_so);
+      homes = homes_on p.k p.tables.tables p.staging p.files (seen p) kept.world awake out q job is_out (seen given_parts);
+      stay = subst (λ (v : WorldView). OthersStay (seen p) v q.who) view_is (others_given_on p.k p.tables.tables p.staging p.files (seen p) kept.world awake out q job is_out full k staging k_is runs left_so);
     }

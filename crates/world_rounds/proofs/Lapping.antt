@@ -47,7 +47,7 @@ module _ (law : StandsOut) (may : MayBegin) (p q : Parts) (l : View) (lines : Li
     (are : AreLogLines p.k.volume lines) (goes : LinesGoOut (log_line p.k.volume.geometry 0) p.k.cells l.cells lines) (count : length ws ≡ 8 * length lines)
     (each : (i : ℕ) → i < 8 * length lines → slice_index ws i ≡ newest (cell (line_at lines (i / 8)).cells (i % 8))) (first : q.first.items ≡ ws) (is : q ≡ record p { k = l; first = q.first; lines_out = true }) where
   taken : MayTakeLog p.k (seen p)
-  taken = may p.k p.files.tables p.staging p.data (seen p) kept.world on home
+  taken = may p.k p.tables.tables p.staging p.files (seen p) kept.world on home
 
   order : IsInOrder l
   order = orders (ap (λ (x : View). x.lost) same ∙ taken.on)
@@ -58,13 +58,13 @@ module _ (law : StandsOut) (may : MayBegin) (p q : Parts) (l : View) (lines : Li
   abbrev rest : Parts
   rest = record p { k = l; first = q.first; lines_out = true }
 
-  rest_seen : begun_view (seen p) l p.files.tables p.staging p.data ws ≡ seen rest
-  rest_seen = ap (λ (xs : List ℕ). begun_view (seen p) l p.files.tables p.staging p.data xs) (sym first)
+  rest_seen : begun_view (seen p) l p.tables.tables p.staging p.files ws ≡ seen rest
+  rest_seen = ap (λ (xs : List ℕ). begun_view (seen p) l p.tables.tables p.staging p.files xs) (sym first)
 
   rest_kept : IsKept rest
   rest_kept = record {
-    world = subst (λ (w : WorldView). IsWorldOver l p.files.tables p.staging p.data w) rest_seen
-        (begun_on law p.k l p.files.tables p.staging p.data (seen p) kept.world on home lines ws same order taken.single are goes words);
+    world = subst (λ (w : WorldView). IsWorldOver l p.tables.tables p.staging p.files w) rest_seen
+        (begun_on law p.k l p.tables.tables p.staging p.files (seen p) kept.world on home lines ws same order taken.single are goes words);
     counts = kept.counts;
     room = record {
       items = kept.room.items;
@@ -82,4 +82,4 @@ module _ (law : StandsOut) (may : MayBegin) (p q : Parts) (l : View) (lines : Li
   begun_round =
       subst (λ (x : Parts). IsRoundBegun (seen p) (seen x) lines x.base) (sym is)
       (subst (λ (w : WorldView). IsRoundBegun (seen p) w lines p.base) rest_seen
-      (round_begun law p.k l p.files.tables p.staging p.data (seen p) kept.world on home lines ws same order taken.single are goes words p.base refl taken.low taken.few))
+      (round_begun law p.k l p.tables.tables p.staging p.files (seen p) kept.world on home lines ws same order taken.single are goes words p.base refl taken.low taken.few))

@@ -86,15 +86,15 @@ loan_in (x ∷ loans) (suc n) below = inr (loan_in loans n (omega (arith, below)
 -- ---- a job ends after it
 
 module _ (p : Parts) (kept : IsKept p) (off : p.lost ≡ true) (out : p.lines_out ≡ true) (q : JobOut) (job : FilledView) (is_out : IsFilledOut (seen p) q job) where
-  gone : IsLostOut p.staging p.data (seen p)
-  gone = subst (IsLost p.staging p.data (seen p)) out (kept.world.gone off)
+  gone : IsLostOut p.staging p.files (seen p)
+  gone = subst (IsLost p.staging p.files (seen p)) out (kept.world.gone off)
 
   pub loans_out_now : (n i : ℕ) → n < length job.loans → i / 512 ≡ (loan_at job.loans n).place → is_lent (cell p.k.cells i) ≡ true
   loans_out_now n i below place =
       is_out.lent i (subst (λ b. In b q.blocks) (sym place) (subst (In (loan_at job.loans n).place) is_out.blocks (place_in job.loans (loan_at job.loans n) (loan_in job.loans n below))))
 
   pub loans_apart_now : AreApart job.loans
-  loans_apart_now = (has_loans_apart gone.volume p.k.cells (kept_of (seen p) p.staging p.data) (seen p).start p.history.items (seen p).unfinished q job.loans gone.at is_out.there is_out.blocks).0
+  loans_apart_now = (has_loans_apart gone.volume p.k.cells (kept_of (seen p) p.staging p.files) (seen p).start p.history.items (seen p).unfinished q job.loans gone.at is_out.there is_out.blocks).0
 
   pub callers_now : AllPairs AreOfTwoThreads p.pending.items
   callers_now = gone.at.callers
@@ -105,8 +105,8 @@ module _ (p : Parts) (kept : IsKept p) (off : p.lost ≡ true) (out : p.lines_ou
 
   first_there : In (512 * first / 512) q.blocks
   first_there =
-      let its = its_job gone.volume p.k.cells (kept_of (seen p) p.staging p.data) (seen p).start p.history.items (seen p).unfinished gone.at q is_out.there in
-      let stands = stood gone.volume p.k.cells (kept_of (seen p) p.staging p.data) (seen p).start p.history.items (seen p).unfinished gone.at its.job its.there in
+      let its = its_job gone.volume p.k.cells (kept_of (seen p) p.staging p.files) (seen p).start p.history.items (seen p).unfinished gone.at q is_out.there in
+      let stands = stood gone.volume p.k.cells (kept_of (seen p) p.staging p.files) (seen p).start p.history.items (seen p).unfinished gone.at its.job its.there in
       let some : 0 < q.draft.count = subst (λ (d : Draft). 0 < d.count) its.draft (some_blocks its.job.draft stands.draft) in
       let blocks = gone.at.blocks q is_out.there in
       subst (λ b. In b q.blocks) (omega arith) (block_of gone.volume q first blocks (0, some, blocks.each 0 some))
@@ -118,7 +118,7 @@ module _ (p : Parts) (kept : IsKept p) (off : p.lost ≡ true) (out : p.lines_ou
 
   module _ (l : View) (holds : HoldWords job.loans job.words) (back : ComeBack job.loans p.k.cells l.cells) where
     home_now : AreBlocksHome q.blocks l.cells
-    home_now = blocks_home p.k l p.files.tables p.staging p.data (seen p) kept.world off out q job is_out holds back
+    home_now = blocks_home p.k l p.tables.tables p.staging p.files (seen p) kept.world off out q job is_out holds back
 
     one_fewer : blocks_out l.cells p.pending.items + 1 ≤ blocks_out p.k.cells p.pending.items
     one_fewer =
@@ -133,15 +133,15 @@ module _ (p : Parts) (kept : IsKept p) (off : p.lost ≡ true) (out : p.lines_ou
       claims_are : p.claims.items ++ (slot, q.draft) ∷ [] ≡ claims.items
       claims_are = ap (λ (d : Draft). p.claims.items ++ (slot, d) ∷ []) (sym is_out.draft) ∙ sym claimed
 
-      view_is : (let v : WorldView = record (seen p) { claims = p.claims.items ++ (slot, q.draft) ∷ []; acts = p.acts; disk = disk_of l p.files.tables p.staging p.data; lost = true } in v ≡ seen then_parts)
-      view_is = λ i. record (seen p) { claims = claims_are i; acts = p.acts; disk = disk_of l p.files.tables p.staging p.data; lost = sym off i }
+      view_is : (let v : WorldView = record (seen p) { claims = p.claims.items ++ (slot, q.draft) ∷ []; acts = p.acts; disk = disk_of l p.tables.tables p.staging p.files; lost = true } in v ≡ seen then_parts)
+      view_is = λ i. record (seen p) { claims = claims_are i; acts = p.acts; disk = disk_of l p.tables.tables p.staging p.files; lost = sym off i }
 
       len : vec_len claims ≡ vec_len p.claims + 1
       len = omega (arith, claims.ok.0, p.claims.ok.0, ap length claimed, length-append p.claims.items ((slot, job.draft) ∷ []))
 
       pub finish_kept : IsKept then_parts
       finish_kept = record {
-        world = subst (IsWorldOver l p.files.tables p.staging p.data) view_is (finished_lost p.k l p.files.tables p.staging p.data (seen p) kept.world off out q job is_out holds back slot p.acts kept.world.counted.acts);
+        world = subst (IsWorldOver l p.tables.tables p.staging p.files) view_is (finished_lost p.k l p.tables.tables p.staging p.files (seen p) kept.world off out q job is_out holds back slot p.acts kept.world.counted.acts);
         counts = kept.counts;
         room = record {
           items = λ on. no_both p.lost off on _;
@@ -159,8 +159,8 @@ module _ (p : Parts) (kept : IsKept p) (off : p.lost ≡ true) (out : p.lines_ou
         first_one = λ on. no_both p.lost off on _;
         later_one = λ lost. refl;
         back = home_now;
-        homes = homes_stay p.k l p.files.tables p.staging p.data (seen p) kept.world off out q job is_out holds back;
-        stay = subst (λ (v : WorldView). OthersStay (seen p) v q.who) view_is (others_finished p.k l p.files.tables p.staging p.data (seen p) kept.world off out q job is_out holds back slot p.acts);
+        homes = homes_stay p.k l p.tables.tables p.staging p.files (seen p) kept.world off out q job is_out holds back;
+        stay = subst (λ (v : WorldView). OthersStay (seen p) v q.who) view_is (others_finished p.k l p.tables.tables p.staging p.files (seen p) kept.world off out q job is_out holds back slot p.acts);
       }
 
     -- or it was given up
@@ -171,11 +171,11 @@ module _ (p : Parts) (kept : IsKept p) (off : p.lost ≡ true) (out : p.lines_ou
       pending_is : without q.who p.pending.items ≡ pending.items
       pending_is = ap (λ (w : Who). without w p.pending.items) (sym is_out.who) ∙ sym left
 
-      given_view_is : given_view p.k l p.files.tables p.staging p.data (seen p) kept.world off out q job is_out holds back full ≡ seen given_parts
+      given_view_is : given_view p.k l p.tables.tables p.staging p.files (seen p) kept.world off out q job is_out holds back full ≡ seen given_parts
       given_view_is = λ i. record (seen given_parts) { pending = pending_is i; over = Some (sym over_is i) }
 
       one_gone : length pending.items + 1 ≡ length p.pending.items
-      one_gone = ap (λ (xs : List JobOut). length xs + 1) (sym pending_is) ∙ one_less p.k l p.files.tables p.staging p.data (seen p) kept.world off out q job is_out holds back
+      one_gone = ap (λ (xs : List JobOut). length xs + 1) (sym pending_is) ∙ one_less p.k l p.tables.tables p.staging p.files (seen p) kept.world off out q job is_out holds back
 
       fewer_out : blocks_out l.cells pending.items ≤ blocks_out l.cells p.pending.items
       fewer_out =
@@ -184,7 +184,7 @@ module _ (p : Parts) (kept : IsKept p) (off : p.lost ≡ true) (out : p.lines_ou
 
       pub give_kept : IsKept given_parts
       give_kept = record {
-        world = subst (IsWorldOver l p.files.tables p.staging p.data) given_view_is (given_lost p.k l p.files.tables p.staging p.data (seen p) kept.world off out q job is_out holds back full);
+        world = subst (IsWorldOver l p.tables.tables p.staging p.files) given_view_is (given_lost p.k l p.tables.tables p.staging p.files (seen p) kept.world off out q job is_out holds back full);
         counts = kept.counts;
         room = record {
           items = λ on. no_both p.lost off on _;
@@ -201,8 +201,8 @@ module _ (p : Parts) (kept : IsKept p) (off : p.lost ≡ true) (out : p.lines_ou
         disk = λ on. no_both p.lost off on _;
         run_back = λ on. no_both p.lost off on _;
         back = home_now;
-        homes = homes_stay p.k l p.files.tables p.staging p.data (seen p) kept.world off out q job is_out holds back;
-        stay = subst (λ (v : WorldView). OthersStay (seen p) v q.who) given_view_is (others_given p.k l p.files.tables p.staging p.data (seen p) kept.world off out q job is_out holds back full);
+        homes = homes_stay p.k l p.tables.tables p.staging p.files (seen p) kept.world off out q job is_out holds back;
+        stay = subst (λ (v : WorldView). OthersStay (seen p) v q.who) given_view_is (others_given p.k l p.tables.tables p.staging p.files (seen p) kept.world off out q job is_out holds back full);
       }
 
 -- the power went just before

@@ -106,10 +106,10 @@ holds_more before job old new x at = elim (pushed-In before job x at) [ inl ther
 
 module _ (p : Parts) (kept : IsKept p) (off : p.lost ≡ true) (lines : List Part) (out : List JobView) (filled : List FilledView) (may : MayCrash (seen p) lines out filled) where
   each_handed : AreOneEach (handed out filled)
-  each_handed = handed_apart p.k p.files.tables p.staging p.data (seen p) kept.world off lines out filled may
+  each_handed = handed_apart p.k p.tables.tables p.staging p.files (seen p) kept.world off lines out filled may
 
   lent_handed : AreLent (handed out filled) p.k.cells
-  lent_handed loan i at place = loans_lent (seen p) p.staging p.data out filled may.jobs loan i at (sym place)
+  lent_handed loan i at place = loans_lent (seen p) p.staging p.files out filled may.jobs loan i at (sym place)
 
   pub out_each : AreOneEach (loans_out out)
   out_each = each_front (loans_out out) (loans_filled filled) each_handed
@@ -132,13 +132,13 @@ module _ (p : Parts) (kept : IsKept p) (off : p.lost ≡ true) (lines : List Par
       all_home = next_home (handed out filled) (loans_out out) (loans_filled filled) [] handed_are p.k.cells first each_handed lent_handed home middle two
 
       pub lines_may : MayPutLines (seen p) middle (if p.lines_out then lines else p.home.items)
-      lines_may = may_put p.k p.files.tables p.staging p.data (seen p) kept.world off lines out filled may middle all_home
+      lines_may = may_put p.k p.tables.tables p.staging p.files (seen p) kept.world off lines out filled may middle all_home
 
       module _ (holds : (job : FilledView) → In job filled → HoldWords job.loans job.words) (e : List Cell) (size : length e ≡ length middle) where
         pub left_so : LinesComeBack (log_line p.geometry 0) (if p.lines_out then lines else p.home.items) middle e
             → ((i : ℕ) → IsInLines (log_line p.geometry 0) (length (if p.lines_out then lines else p.home.items)) i → is_lent (cell e i) ≡ false)
             → IsLeft (seen p) e p.history.items (calls_out (seen p)) × KeepsActed (seen p) lines filled e
-        left_so = crash_left p.k p.files.tables p.staging p.data (seen p) kept.world off lines out filled may middle all_home holds e size
+        left_so = crash_left p.k p.tables.tables p.staging p.files (seen p) kept.world off lines out filled may middle all_home holds e size
 
       -- the lines that are put back, from this line on
       module _ (back : List Part) (is : back ≡ (if p.lines_out then lines else p.home.items)) (line : ℕ) (line_is : line ≡ log_line p.geometry 0) where

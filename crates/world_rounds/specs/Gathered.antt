@@ -15,8 +15,8 @@ use Rattle.world_parts.specs.Seen.{seen}
 -- the lines came home to a device, and all that is staged was published there
 pub record HasGathered (p q : Parts) (lines : List Part) (answer : Result Commit AllocError) : Type 0 where
   pub home : View
-  pub ending : IsEnding p.k home p.files.tables p.staging p.data (seen p) lines
-  pub gathered : IsGatherAnswer p.data home q.staging q.data q.k answer
+  pub ending : IsEnding p.k home p.tables.tables p.staging p.files (seen p) lines
+  pub gathered : IsGatherAnswer p.files home q.staging q.files q.k answer
 
 -- how the run ends with what is left
 abbrev pub EndsWith : Result Commit AllocError → Crashed → Result Ended NoMemory → Type 0

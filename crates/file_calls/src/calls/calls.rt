@@ -19,43 +19,43 @@ use std::alloc::Global;
 pub fn run_call(
     alloc: Global,
     k: &mut KSplit,
-    files: &mut OpenFiles,
-    data: &mut FileTable,
+    tables: &mut OpenFiles,
+    files: &mut FileTable,
     who: Who,
     call: &Call,
     power: &mut Power,
 ) -> Result<Told, NoMemory>
     requires built { IsBuilt call.now }
     requires spelled { NamesAreSpelled call.now }
-    requires bare { CutsNothing call.now k.old data.old }
-    requires runs { RunsInSome k.old files.old.tables data.old }
+    requires bare { CutsNothing call.now k.old files.old }
+    requires runs { RunsInSome k.old tables.old.tables files.old }
     requires power { is_on power.old ≡ true }
     ensures steps { Steps (most_steps call.now) power.old power.new }
-    ensures ended { IsEnded who call.now k.old files.old.tables data.old k.new files.new.tables
-        data.new power.old power.new result }
-    ensures ends { KeepsEnds k.old data.old k.new data.new power.new }
+    ensures ended { IsEnded who call.now k.old tables.old.tables files.old k.new tables.new.tables
+        files.new power.old power.new result }
+    ensures ends { KeepsEnds k.old files.old k.new files.new power.new }
 {
     match call {
         Call::Mkdir(path) => mkdir(alloc, k, path, power),
         Call::Rmdir(path) => rmdir(k, path, power),
-        Call::Unlink(path) => unlink(k, files, data, path, power),
-        Call::Rename(path, to) => rename(alloc, k, files, data, path, to, power),
+        Call::Unlink(path) => unlink(k, tables, files, path, power),
+        Call::Rename(path, to) => rename(alloc, k, tables, files, path, to, power),
         Call::Open(handle, path, flags) => {
-            open(alloc, k, files, data, who, *handle, path, *flags, power)
+            open(alloc, k, tables, files, who, *handle, path, *flags, power)
         }
-        Call::Close(handle) => Ok(close(k, files, data, who, *handle, power)),
-        Call::Dup(handle, to) => dup(files, who, *handle, *to),
-        Call::Stat(path) => Ok(stat(k, data, path)),
+        Call::Close(handle) => Ok(close(k, tables, files, who, *handle, power)),
+        Call::Dup(handle, to) => dup(tables, who, *handle, *to),
+        Call::Stat(path) => Ok(stat(k, files, path)),
         Call::List(path) => list(alloc, k, path),
-        Call::Read(handle, count) => read(alloc, k, files, data, who, *handle, *count),
+        Call::Read(handle, count) => read(alloc, k, tables, files, who, *handle, *count),
         Call::Pread(handle, offset, count) => {
-            pread(alloc, k, files, data, who, *handle, *offset, *count)
+            pread(alloc, k, tables, files, who, *handle, *offset, *count)
         }
         Call::Seek(handle, whence, by) => {
             let by = *by;
-            Ok(seek(k, files, data, who, *handle, *whence, by))
+            Ok(seek(k, tables, files, who, *handle, *whence, by))
         }
-        Call::Fsync(handle) => Ok(fsync(files, who, *handle)),
+        Call::Fsync(handle) => Ok(fsync(tables, who, *handle)),
         Call::Write(..) | Call::Pwrite(..) | Call::Truncate(..) => unreachable!(),
     }
 }

@@ -23,35 +23,35 @@ use std::alloc::{AllocError, Global};
 fn bytes_at(
     alloc: Global,
     k: &KSplit,
-    data: &FileTable,
+    files: &FileTable,
     ino: u32,
     place: u64,
     count: u64,
 ) -> Result<Data, AllocError>
-    requires { IsReadableFile k.now data.now ino }
+    requires { IsReadableFile k.now files.now ino }
     ensures { IfOk result (λ bytes. bytes ≡ bytes_in k.now.volume (words_of k.now.cells)
-        (runs_in data.now ino) ino place (read_len (size_in data.now ino) place count)) }
+        (runs_in files.now ino) ino place (read_len (size_in files.now ino) place count)) }
 {
     let mut collection = Collection::new(alloc);
     let bytes = read_bytes(
         alloc,
         k,
         ino,
-        data.size(ino),
+        files.size(ino),
         place,
         count,
-        data.overlay(ino),
+        files.overlay(ino),
         &mut collection,
     )?;
     Data::of(bytes)
 }
 
 // The file of a handle, where it was opened to be read.
-fn opened_to_read(files: &OpenFiles, who: Who, handle: Handle) -> Option<Opened>
-    ensures none { IfNone result (may_read files.now.tables who handle ≡ false) }
-    ensures some { IfSome result (IsReadBy files.now.tables who handle) }
+fn opened_to_read(tables: &OpenFiles, who: Who, handle: Handle) -> Option<Opened>
+    ensures none { IfNone result (may_read tables.now.tables who handle ≡ false) }
+    ensures some { IfSome result (IsReadBy tables.now.tables who handle) }
 {
-    match files.find(who, handle) {
+    match tables.find(who, handle) {
         Some(opened) if opened.flags.read => Some(opened),
         _ => None,
     }
@@ -62,22 +62,22 @@ fn opened_to_read(files: &OpenFiles, who: Who, handle: Handle) -> Option<Opened>
 pub fn read(
     alloc: Global,
     k: &KSplit,
-    files: &mut OpenFiles,
-    data: &FileTable,
+    tables: &mut OpenFiles,
+    files: &FileTable,
     who: Who,
     handle: Handle,
     count: u64,
 ) -> Result<Told, NoMemory>
-    requires { RunsInSome k.now files.old.tables data.now }
+    requires { RunsInSome k.now tables.old.tables files.now }
     ensures { (power : Supply) → is_on power ≡ true
-        → IsEnded who (Call.Read handle count) k.now files.old.tables data.now k.now
-        files.new.tables data.now power power result }
+        → IsEnded who (Call.Read handle count) k.now tables.old.tables files.now k.now
+        tables.new.tables files.now power power result }
 {
-    match opened_to_read(files, who, handle) {
+    match opened_to_read(tables, who, handle) {
         None => Ok(answered(Reply::Error(Errno::EBADF))),
         Some(opened) => {
-            let bytes = bytes_at(alloc, k, data, opened.ino, opened.offset, count)?;
-            files.set_offset(opened.key, opened.offset + bytes.len() as u64);
+            let bytes = bytes_at(alloc, k, files, opened.ino, opened.offset, count)?;
+            tables.set_offset(opened.key, opened.offset + bytes.len() as u64);
             Ok(answered(Reply::Bytes(bytes)))
         }
     }
@@ -88,36 +88,36 @@ pub fn read(
 pub fn pread(
     alloc: Global,
     k: &KSplit,
-    files: &OpenFiles,
-    data: &FileTable,
+    tables: &OpenFiles,
+    files: &FileTable,
     who: Who,
     handle: Handle,
     place: u64,
     count: u64,
 ) -> Result<Told, NoMemory>
-    requires { RunsInSome k.now files.now.tables data.now }
+    requires { RunsInSome k.now tables.now.tables files.now }
     ensures { (power : Supply) → is_on power ≡ true
-        → IsEnded who (Call.Pread handle place count) k.now files.now.tables data.now k.now
-        files.now.tables data.now power power result }
+        → IsEnded who (Call.Pread handle place count) k.now tables.now.tables files.now k.now
+        tables.now.tables files.now power power result }
 {
-    match opened_to_read(files, who, handle) {
+    match opened_to_read(tables, who, handle) {
         None => Ok(answered(Reply::Error(Errno::EBADF))),
         Some(opened) => {
-            let bytes = bytes_at(alloc, k, data, opened.ino, place, count)?;
+            let bytes = bytes_at(alloc, k, files, opened.ino, place, count)?;
             Ok(answered(Reply::Bytes(bytes)))
         }
     }
 }
 
 // What a seek counts from.
-fn base_of(data: &FileTable, opened: Opened, whence: Whence) -> u64
-    requires { opened.ino < length data.now.sizes }
-    ensures { result ≡ base_by opened.offset (size_in data.now opened.ino) whence }
+fn base_of(files: &FileTable, opened: Opened, whence: Whence) -> u64
+    requires { opened.ino < length files.now.sizes }
+    ensures { result ≡ base_by opened.offset (size_in files.now opened.ino) whence }
 {
     match whence {
         Whence::Set => 0,
         Whence::Cur => opened.offset,
-        Whence::End => data.size(opened.ino),
+        Whence::End => files.size(opened.ino),
     }
 }
 
@@ -125,25 +125,25 @@ fn base_of(data: &FileTable, opened: Opened, whence: Whence) -> u64
 /// the file. It takes no memory and no step.
 pub fn seek(
     k: &KSplit,
-    files: &mut OpenFiles,
-    data: &FileTable,
+    tables: &mut OpenFiles,
+    files: &FileTable,
     who: Who,
     handle: Handle,
     whence: Whence,
     by: i64,
 ) -> Told
-    requires { RunsInSome k.now files.old.tables data.now }
+    requires { RunsInSome k.now tables.old.tables files.now }
     ensures { (power : Supply) → is_on power ≡ true
-        → IsEnded who (Call.Seek handle whence by) k.now files.old.tables data.now k.now
-        files.new.tables data.now power power (Ok result) }
+        → IsEnded who (Call.Seek handle whence by) k.now tables.old.tables files.now k.now
+        tables.new.tables files.now power power (Ok result) }
 {
     let _k = k;
-    match files.find(who, handle) {
+    match tables.find(who, handle) {
         None => answered(Reply::Error(Errno::EBADF)),
-        Some(opened) => match moved_place(base_of(data, opened, whence), by) {
+        Some(opened) => match moved_place(base_of(files, opened, whence), by) {
             None => answered(Reply::Error(Errno::EINVAL)),
             Some(place) => {
-                files.set_offset(opened.key, place);
+                tables.set_offset(opened.key, place);
                 answered(Reply::Offset(place))
             }
         },
@@ -152,12 +152,12 @@ pub fn seek(
 
 /// Answers an `fsync`: no call sees what it publishes, so this takes no step. What is staged of the
 /// file the layer above has published before.
-pub fn fsync(files: &OpenFiles, who: Who, handle: Handle) -> Told
+pub fn fsync(tables: &OpenFiles, who: Who, handle: Handle) -> Told
     ensures { (k : View) (f : Files) (power : Supply) → is_on power ≡ true
-        → IsEnded who (Call.Fsync handle) k files.now.tables f k files.now.tables f power power
+        → IsEnded who (Call.Fsync handle) k tables.now.tables f k tables.now.tables f power power
         (Ok result) }
 {
-    match files.find(who, handle) {
+    match tables.find(who, handle) {
         None => answered(Reply::Error(Errno::EBADF)),
         Some(_) => answered(Reply::Ok),
     }

@@ -16,12 +16,12 @@ use posix_types::{NameList, Path, Reply, Stat};
 use std::alloc::Global;
 
 // What an inode line says of a node: of a file the size by what is staged of it.
-fn stat_of(data: &FileTable, ino: u32, inode: &Inode) -> Stat
-    requires { inode.now.kind ≡ File → ino < length data.now.sizes }
-    ensures { result ≡ stat_by inode.now.kind (size_in data.now ino) }
+fn stat_of(files: &FileTable, ino: u32, inode: &Inode) -> Stat
+    requires { inode.now.kind ≡ File → ino < length files.now.sizes }
+    ensures { result ≡ stat_by inode.now.kind (size_in files.now ino) }
 {
     match inode.kind {
-        Kind::File => Stat::File(data.size(ino)),
+        Kind::File => Stat::File(files.size(ino)),
         Kind::Directory => Stat::Directory,
         Kind::Free => Stat::Directory,
         Kind::Staging => Stat::Directory,
@@ -29,16 +29,16 @@ fn stat_of(data: &FileTable, ino: u32, inode: &Inode) -> Stat
 }
 
 /// What stands at a path. It takes no step.
-pub fn stat(k: &KSplit, data: &FileTable, path: &Path) -> Told
-    requires { length data.now.sizes ≡ length k.now.volume.inodes }
+pub fn stat(k: &KSplit, files: &FileTable, path: &Path) -> Told
+    requires { length files.now.sizes ≡ length k.now.volume.inodes }
     ensures { (who : Who) (t : Tables) (power : Supply) → is_on power ≡ true
-        → IsEnded who (Call.Stat path.now) k.now t data.now k.now t data.now power power
+        → IsEnded who (Call.Stat path.now) k.now t files.now k.now t files.now power power
         (Ok result) }
 {
     match k.find(path) {
         Err(errno) => answered(Reply::Error(errno)),
         Ok(ino) => match k.node(ino) {
-            Some(inode) => answered(Reply::Stat(stat_of(data, ino, &inode))),
+            Some(inode) => answered(Reply::Stat(stat_of(files, ino, &inode))),
             None => answered(Reply::Stat(Stat::Directory)),
         },
     }

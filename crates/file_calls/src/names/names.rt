@@ -62,8 +62,8 @@ pub fn rmdir(k: &mut KSplit, path: &Path, power: &mut Power) -> Result<Told, NoM
 // file goes, and what is kept of it, where it has no name left and nobody has it open.
 pub(crate) fn sweep(
     k: &mut KSplit,
-    files: &OpenFiles,
-    data: &mut FileTable,
+    tables: &OpenFiles,
+    files: &mut FileTable,
     ino: u32,
     reply: Reply,
     power: &mut Power,
@@ -71,26 +71,26 @@ pub(crate) fn sweep(
     requires on { k.old.lost ≡ false }
     requires unbatched { k.old.batched ≡ false }
     requires file { IsFileOf ino k.old.volume }
-    requires line { ino < length data.old.sizes }
+    requires line { ino < length files.old.sizes }
     ensures steps { Steps 256 power.old power.new }
     ensures ended { (who : Who) (call : Call) (before : View) (t : Tables) (entry : Supply)
-        → ComesHalfWay who call before t data.old k.old files.now.tables ino
-        → IsReplyOf who call before t data.old (answer reply)
-        → IsSpent who call before t data.old entry power.old → is_on power.old ≡ true
+        → ComesHalfWay who call before t files.old k.old tables.now.tables ino
+        → IsReplyOf who call before t files.old (answer reply)
+        → IsSpent who call before t files.old entry power.old → is_on power.old ≡ true
         → ((s : State) → takes s (who, call) ≡ 0) → HasSameLoans before k.old
-        → IsEnded who call before t data.old k.new files.now.tables data.new entry power.new
+        → IsEnded who call before t files.old k.new tables.now.tables files.new entry power.new
         (Ok result) }
-    ensures ends { KeepsEnds k.old data.old k.new data.new power.new }
+    ensures ends { KeepsEnds k.old files.old k.new files.new power.new }
 {
     if k.named(ino) {
         return answered(reply);
     }
-    if files.is_open(ino) {
+    if tables.is_open(ino) {
         return answered(reply);
     }
     match k.drop_node(ino, power) {
         Ok(()) => {
-            data.clear(ino, 0);
+            files.clear(ino, 0);
             answered(reply)
         }
         Err(_) => Told::PowerLost,
@@ -100,19 +100,19 @@ pub(crate) fn sweep(
 /// Takes the name of a file away: first the name goes, then the file, where nobody has it open.
 pub fn unlink(
     k: &mut KSplit,
-    files: &OpenFiles,
-    data: &mut FileTable,
+    tables: &OpenFiles,
+    files: &mut FileTable,
     path: &Path,
     power: &mut Power,
 ) -> Result<Told, NoMemory>
-    requires runs { RunsInSome k.old files.now.tables data.old }
+    requires runs { RunsInSome k.old tables.now.tables files.old }
     ensures steps { Steps 512 power.old power.new }
-    ensures ended { (who : Who) → IsEnded who (Call.Unlink path.now) k.old files.now.tables
-        data.old k.new files.now.tables data.new power.old power.new result }
-    ensures ends { KeepsEnds k.old data.old k.new data.new power.new }
+    ensures ended { (who : Who) → IsEnded who (Call.Unlink path.now) k.old tables.now.tables
+        files.old k.new tables.now.tables files.new power.old power.new result }
+    ensures ends { KeepsEnds k.old files.old k.new files.new power.new }
 {
     match k.unlink(path, power) {
-        Ok(ino) => Ok(sweep(k, files, data, ino, Reply::Ok, power)),
+        Ok(ino) => Ok(sweep(k, tables, files, ino, Reply::Ok, power)),
         Err(fault) => after_fault(fault),
     }
 }
@@ -122,22 +122,22 @@ pub fn unlink(
 pub fn rename(
     alloc: Global,
     k: &mut KSplit,
-    files: &OpenFiles,
-    data: &mut FileTable,
+    tables: &OpenFiles,
+    files: &mut FileTable,
     path: &Path,
     to: &Path,
     power: &mut Power,
 ) -> Result<Told, NoMemory>
-    requires runs { RunsInSome k.old files.now.tables data.old }
+    requires runs { RunsInSome k.old tables.now.tables files.old }
     requires spelled { AreSpelled to.now }
     ensures steps { Steps 512 power.old power.new }
     ensures ended { (who : Who) → IsEnded who (Call.Rename path.now to.now) k.old
-        files.now.tables data.old k.new files.now.tables data.new power.old power.new result }
-    ensures ends { KeepsEnds k.old data.old k.new data.new power.new }
+        tables.now.tables files.old k.new tables.now.tables files.new power.old power.new result }
+    ensures ends { KeepsEnds k.old files.old k.new files.new power.new }
 {
     match k.rename(alloc, path, to, power) {
         Ok(None) => Ok(answered(Reply::Ok)),
-        Ok(Some(ino)) => Ok(sweep(k, files, data, ino, Reply::Ok, power)),
+        Ok(Some(ino)) => Ok(sweep(k, tables, files, ino, Reply::Ok, power)),
         Err(fault) => after_fault(fault),
     }
 }

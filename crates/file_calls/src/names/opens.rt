@@ -54,18 +54,18 @@ fn is_exclusive(flags: Flags) -> bool
 }
 
 // Whether an `open` cuts a file that has bytes.
-fn is_cut(data: &FileTable, ino: u32, flags: Flags) -> bool
-    requires { ino < length data.now.sizes }
-    ensures { result ≡ (flags.truncate && nat_lt 0 (size_in data.now ino)) }
+fn is_cut(files: &FileTable, ino: u32, flags: Flags) -> bool
+    requires { ino < length files.now.sizes }
+    ensures { result ≡ (flags.truncate && nat_lt 0 (size_in files.now ino)) }
 {
-    flags.truncate && 0 < data.size(ino)
+    flags.truncate && 0 < files.size(ino)
 }
 
 // Opens a file that is there and is not cut, or has nothing to cut.
 fn open_there(
     k: &KSplit,
-    files: &mut OpenFiles,
-    data: &FileTable,
+    tables: &mut OpenFiles,
+    files: &FileTable,
     who: Who,
     handle: Handle,
     path: &Path,
@@ -75,15 +75,15 @@ fn open_there(
     requires found { IsFound k.now.volume path.now (Ok ino) }
     requires file { (inode k.now.volume ino).kind ≡ File }
     requires shared { (flags.create && flags.exclusive) ≡ false }
-    requires stays { flags.truncate ≡ true → size_in data.now ino ≡ 0 }
+    requires stays { flags.truncate ≡ true → size_in files.now ino ≡ 0 }
     ensures { (power : Supply) → is_on power ≡ true
-        → IsEnded who (Call.Open handle path.now flags) k.now files.old.tables data.now k.now
-        files.new.tables data.now power power result }
+        → IsEnded who (Call.Open handle path.now flags) k.now tables.old.tables files.now k.now
+        tables.new.tables files.now power power result }
 {
     let _k = k;
-    let _data = data;
+    let _files = files;
     let _path = path;
-    match files.open(who, handle, ino, flags) {
+    match tables.open(who, handle, ino, flags) {
         Ok(descriptor) => Ok(answered(Reply::Fd(descriptor))),
         Err(fault) => after_open_fault(fault),
     }
@@ -94,8 +94,8 @@ fn open_there(
 fn open_cut(
     alloc: Global,
     k: &mut KSplit,
-    files: &mut OpenFiles,
-    data: &mut FileTable,
+    tables: &mut OpenFiles,
+    files: &mut FileTable,
     who: Who,
     handle: Handle,
     path: &Path,
@@ -104,28 +104,28 @@ fn open_cut(
     power: &mut Power,
 ) -> Result<Told, NoMemory>
     requires found { IsFound k.old.volume path.now (Ok ino) }
-    requires runs { RunsInSome k.old files.old.tables data.old }
+    requires runs { RunsInSome k.old tables.old.tables files.old }
     requires file { (inode k.old.volume ino).kind ≡ File }
-    requires bare { runs_in data.old ino ≡ [] }
+    requires bare { runs_in files.old ino ≡ [] }
     requires shared { (flags.create && flags.exclusive) ≡ false }
     requires cuts { flags.truncate ≡ true }
     requires power { is_on power.old ≡ true }
     ensures steps { Steps (2 ^ 15) power.old power.new }
-    ensures ended { IsEnded who (Call.Open handle path.now flags) k.old files.old.tables data.old
-        k.new files.new.tables data.new power.old power.new result }
-    ensures ends { KeepsEnds k.old data.old k.new data.new power.new }
+    ensures ended { IsEnded who (Call.Open handle path.now flags) k.old tables.old.tables files.old
+        k.new tables.new.tables files.new power.old power.new result }
+    ensures ends { KeepsEnds k.old files.old k.new files.new power.new }
 {
     let _path = path;
-    if files.is_full() {
+    if tables.is_full() {
         return Ok(answered(Reply::Error(Errno::EMFILE)));
     }
-    let Ok(()) = files.reserve() else {
+    let Ok(()) = tables.reserve() else {
         return Err(NoMemory {});
     };
     match k.set_size(alloc, ino, 0, power) {
         Ok(()) => {
-            data.clear(ino, 0);
-            match files.open(who, handle, ino, flags) {
+            files.clear(ino, 0);
+            match tables.open(who, handle, ino, flags) {
                 Ok(descriptor) => Ok(answered(Reply::Fd(descriptor))),
                 Err(_) => unreachable!(),
             }
@@ -138,8 +138,8 @@ fn open_cut(
 fn open_found(
     alloc: Global,
     k: &mut KSplit,
-    files: &mut OpenFiles,
-    data: &mut FileTable,
+    tables: &mut OpenFiles,
+    files: &mut FileTable,
     who: Who,
     handle: Handle,
     path: &Path,
@@ -148,13 +148,13 @@ fn open_found(
     power: &mut Power,
 ) -> Result<Told, NoMemory>
     requires found { IsFound k.old.volume path.now (Ok ino) }
-    requires runs { RunsInSome k.old files.old.tables data.old }
-    requires bare { CutsNothingStaged k.old.volume path.now flags data.old }
+    requires runs { RunsInSome k.old tables.old.tables files.old }
+    requires bare { CutsNothingStaged k.old.volume path.now flags files.old }
     requires power { is_on power.old ≡ true }
     ensures steps { Steps (most_steps (Call.Open handle path.now flags)) power.old power.new }
-    ensures ended { IsEnded who (Call.Open handle path.now flags) k.old files.old.tables data.old
-        k.new files.new.tables data.new power.old power.new result }
-    ensures ends { KeepsEnds k.old data.old k.new data.new power.new }
+    ensures ended { IsEnded who (Call.Open handle path.now flags) k.old tables.old.tables files.old
+        k.new tables.new.tables files.new power.old power.new result }
+    ensures ends { KeepsEnds k.old files.old k.new files.new power.new }
 {
     if is_exclusive(flags) {
         return Ok(answered(Reply::Error(Errno::EEXIST)));
@@ -162,10 +162,10 @@ fn open_found(
     if is_directory(k, ino) {
         return Ok(answered(Reply::Error(Errno::EISDIR)));
     }
-    if is_cut(data, ino, flags) {
-        return open_cut(alloc, k, files, data, who, handle, path, ino, flags, power);
+    if is_cut(files, ino, flags) {
+        return open_cut(alloc, k, tables, files, who, handle, path, ino, flags, power);
     }
-    open_there(k, files, data, who, handle, path, ino, flags)
+    open_there(k, tables, files, who, handle, path, ino, flags)
 }
 
 // Makes the missing file, where the flags say so, and opens it. It takes memory for the tables
@@ -173,7 +173,7 @@ fn open_found(
 fn open_missing(
     alloc: Global,
     k: &mut KSplit,
-    files: &mut OpenFiles,
+    tables: &mut OpenFiles,
     who: Who,
     handle: Handle,
     path: &Path,
@@ -187,19 +187,19 @@ fn open_missing(
     requires power { is_on power.old ≡ true }
     ensures steps { Steps 256 power.old power.new }
     ensures ended { (f : Files) → IsEnded who (Call.Open handle path.now flags) k.old
-        files.old.tables f k.new files.new.tables f power.old power.new result }
-    ensures ends { (f : Files) → RunsInSome k.old files.old.tables f
+        tables.old.tables f k.new tables.new.tables f power.old power.new result }
+    ensures ends { (f : Files) → RunsInSome k.old tables.old.tables f
         → KeepsEnds k.old f k.new f power.new }
 {
     if !flags.create {
         return Ok(answered(Reply::Error(Errno::ENOENT)));
     }
-    if files.is_full() {
+    if tables.is_full() {
         return Ok(answered(Reply::Error(Errno::EMFILE)));
     }
-    files.reserve()?;
+    tables.reserve()?;
     match k.make(alloc, path, false, power) {
-        Ok(ino) => match files.open(who, handle, ino, flags) {
+        Ok(ino) => match tables.open(who, handle, ino, flags) {
             Ok(descriptor) => Ok(answered(Reply::Fd(descriptor))),
             Err(_) => unreachable!(),
         },
@@ -213,8 +213,8 @@ fn open_missing(
 pub fn open(
     alloc: Global,
     k: &mut KSplit,
-    files: &mut OpenFiles,
-    data: &mut FileTable,
+    tables: &mut OpenFiles,
+    files: &mut FileTable,
     who: Who,
     handle: Handle,
     path: &Path,
@@ -222,30 +222,30 @@ pub fn open(
     power: &mut Power,
 ) -> Result<Told, NoMemory>
     requires spelled { AreSpelled path.now }
-    requires runs { RunsInSome k.old files.old.tables data.old }
-    requires bare { CutsNothingStaged k.old.volume path.now flags data.old }
+    requires runs { RunsInSome k.old tables.old.tables files.old }
+    requires bare { CutsNothingStaged k.old.volume path.now flags files.old }
     requires power { is_on power.old ≡ true }
     ensures steps { Steps (most_steps (Call.Open handle path.now flags)) power.old power.new }
-    ensures ended { IsEnded who (Call.Open handle path.now flags) k.old files.old.tables data.old
-        k.new files.new.tables data.new power.old power.new result }
-    ensures ends { KeepsEnds k.old data.old k.new data.new power.new }
+    ensures ended { IsEnded who (Call.Open handle path.now flags) k.old tables.old.tables files.old
+        k.new tables.new.tables files.new power.old power.new result }
+    ensures ends { KeepsEnds k.old files.old k.new files.new power.new }
 {
     match k.find(path) {
-        Ok(ino) => open_found(alloc, k, files, data, who, handle, path, ino, flags, power),
+        Ok(ino) => open_found(alloc, k, tables, files, who, handle, path, ino, flags, power),
         Err(_) => match k.directory_of(path) {
             Err(errno) => Ok(answered(Reply::Error(errno))),
-            Ok(_) => open_missing(alloc, k, files, who, handle, path, flags, power),
+            Ok(_) => open_missing(alloc, k, tables, who, handle, path, flags, power),
         },
     }
 }
 
 /// Gives an open file another descriptor, bound to another handle. It takes no step.
-pub fn dup(files: &mut OpenFiles, who: Who, handle: Handle, to: Handle) -> Result<Told, NoMemory>
+pub fn dup(tables: &mut OpenFiles, who: Who, handle: Handle, to: Handle) -> Result<Told, NoMemory>
     ensures { (k : View) (f : Files) (power : Supply) → is_on power ≡ true
-        → IsEnded who (Call.Dup handle to) k files.old.tables f k files.new.tables f power power
+        → IsEnded who (Call.Dup handle to) k tables.old.tables f k tables.new.tables f power power
         result }
 {
-    match files.dup(who, handle, to) {
+    match tables.dup(who, handle, to) {
         Ok(descriptor) => Ok(answered(Reply::Fd(descriptor))),
         Err(fault) => after_open_fault(fault),
     }
@@ -255,32 +255,32 @@ pub fn dup(files: &mut OpenFiles, who: Who, handle: Handle, to: Handle) -> Resul
 /// it. It takes no memory.
 pub fn close(
     k: &mut KSplit,
-    files: &mut OpenFiles,
-    data: &mut FileTable,
+    tables: &mut OpenFiles,
+    files: &mut FileTable,
     who: Who,
     handle: Handle,
     power: &mut Power,
 ) -> Told
-    requires runs { RunsInSome k.old files.old.tables data.old }
+    requires runs { RunsInSome k.old tables.old.tables files.old }
     requires power { is_on power.old ≡ true }
     ensures steps { Steps 256 power.old power.new }
-    ensures ended { IsEnded who (Call.Close handle) k.old files.old.tables data.old k.new
-        files.new.tables data.new power.old power.new (Ok result) }
-    ensures ends { KeepsEnds k.old data.old k.new data.new power.new }
+    ensures ended { IsEnded who (Call.Close handle) k.old tables.old.tables files.old k.new
+        tables.new.tables files.new power.old power.new (Ok result) }
+    ensures ends { KeepsEnds k.old files.old k.new files.new power.new }
 {
-    match files.find(who, handle) {
+    match tables.find(who, handle) {
         None => answered(Reply::Error(Errno::EBADF)),
         Some(opened) => {
-            files.close(who, handle);
+            tables.close(who, handle);
             if k.named(opened.ino) {
                 return answered(Reply::Ok);
             }
-            if files.is_open(opened.ino) {
+            if tables.is_open(opened.ino) {
                 return answered(Reply::Ok);
             }
             match k.drop_node(opened.ino, power) {
                 Ok(()) => {
-                    data.clear(opened.ino, 0);
+                    files.clear(opened.ino, 0);
                     answered(Reply::Ok)
                 }
                 Err(_) => Told::PowerLost,

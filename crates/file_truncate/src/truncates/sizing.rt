@@ -41,7 +41,7 @@ fn clean_end(k: &mut KSplit, ino: u32, old: u64, size: u64, power: &mut Power) -
 fn set_now(
     alloc: Global,
     k: &mut KSplit,
-    data: &mut FileTable,
+    files: &mut FileTable,
     ino: u32,
     size: u64,
     power: &mut Power,
@@ -51,14 +51,14 @@ fn set_now(
     requires file { IsLiveFile ino k.old.volume }
     requires size { size ≤ LONGEST_FILE }
     requires room { reserve k.old.volume.geometry ≤ free_blocks_in k.old + 3 }
-    requires line { ino < length data.old.sizes }
+    requires line { ino < length files.old.sizes }
     ensures steps { Steps (2 ^ 15) power.old power.new }
     ensures paid { IsTruncatePaid power.old power.new result }
-    ensures answer { IsSet ino size k.old data.old k.new data.new result }
+    ensures answer { IsSet ino size k.old files.old k.new files.new result }
 {
     match k.set_size(alloc, ino, size, power) {
         Ok(()) => {
-            data.clear(ino, size);
+            files.clear(ino, size);
             Ok(Truncated::Answered(answer(Reply::Ok)))
         }
         Err(KFault::NoMemory) => Err(NoMemory {}),
@@ -70,7 +70,7 @@ fn set_now(
 pub(crate) fn give_size(
     alloc: Global,
     k: &mut KSplit,
-    data: &mut FileTable,
+    files: &mut FileTable,
     ino: u32,
     size: u64,
     power: &mut Power,
@@ -81,15 +81,15 @@ pub(crate) fn give_size(
     requires file { IsLiveFile ino k.old.volume }
     requires size { size ≤ LONGEST_FILE }
     requires room { reserve k.old.volume.geometry ≤ free_blocks_in k.old + 3 }
-    requires line { ino < length data.old.sizes }
-    requires published { (inode k.old.volume ino).size ≡ size_in data.old ino }
+    requires line { ino < length files.old.sizes }
+    requires published { (inode k.old.volume ino).size ≡ size_in files.old ino }
     ensures steps { Steps (2 ^ 16) power.old power.new }
     ensures paid { IsTruncatePaid power.old power.new result }
-    ensures answer { IsGiven ino (size_in data.old ino) size k.old data.old k.new data.new result }
+    ensures answer { IsGiven ino (size_in files.old ino) size k.old files.old k.new files.new result }
 {
-    let old = data.size(ino);
+    let old = files.size(ino);
     match clean_end(k, ino, old, size, power) {
         Commit::PowerLost => Ok(Truncated::PowerLost),
-        Commit::Done => set_now(alloc, k, data, ino, size, power),
+        Commit::Done => set_now(alloc, k, files, ino, size, power),
     }
 }

@@ -21,22 +21,22 @@ use std::alloc::Global;
 /// that no row refuses: the blocks that it takes, and those that are left. Something may be staged of the file still.
 pub fn lacks_room(
     k: &KSplit,
-    files: &OpenFiles,
-    data: &FileTable,
+    tables: &OpenFiles,
+    files: &FileTable,
     who: Who,
     handle: Handle,
     size: u64,
     needs: u64,
 ) -> Option<(u64, u64)>
-    requires runs { RunsInSome k.now files.now.tables data.now }
-    ensures { IsLacking who handle size needs k.now files.now.tables data.now result }
+    requires runs { RunsInSome k.now tables.now.tables files.now }
+    ensures { IsLacking who handle size needs k.now tables.now.tables files.now result }
 {
     laws::kept_numbers_are_those_of_the_state();
-    let Some(file) = files.find(who, handle) else {
+    let Some(file) = tables.find(who, handle) else {
         return None;
     };
-    let room = room_by(k.geometry().data_blocks(), data.held());
-    lacking(ask(file.flags.write, size, data.size(file.ino), room, needs))
+    let room = room_by(k.geometry().data_blocks(), files.held());
+    lacking(ask(file.flags.write, size, files.size(file.ino), room, needs))
 }
 
 /// Gives the file of a handle another size, beside writes of other callers that are out, of other
@@ -53,32 +53,32 @@ pub fn lacks_room(
 pub fn truncate_file(
     alloc: Global,
     k: &mut KSplit,
-    files: &OpenFiles,
-    data: &mut FileTable,
+    tables: &OpenFiles,
+    files: &mut FileTable,
     who: Who,
     handle: Handle,
     size: u64,
     needs: u64,
     power: &mut Power,
 ) -> Result<Truncated, NoMemory>
-    requires runs { RunsInSome k.old files.now.tables data.old }
-    requires bare { HasNothingStaged who handle files.now.tables data.old }
-    requires ends { FilesEnd k.old.volume data.old }
+    requires runs { RunsInSome k.old tables.now.tables files.old }
+    requires bare { HasNothingStaged who handle tables.now.tables files.old }
+    requires ends { FilesEnd k.old.volume files.old }
     requires power { is_on power.old ≡ true }
     ensures steps { Steps (2 ^ 16) power.old power.new }
-    ensures ended { IsTruncated who handle size needs k.old files.now.tables data.old k.new data.new
+    ensures ended { IsTruncated who handle size needs k.old tables.now.tables files.old k.new files.new
         power.old power.new result }
-    ensures ends { KeepsEnds k.old data.old k.new data.new power.new }
+    ensures ends { KeepsEnds k.old files.old k.new files.new power.new }
 {
     laws::the_end_of_a_file_is_cleaned_in_flight();
     laws::kept_numbers_are_those_of_the_state();
-    let Some(opened) = files.find(who, handle) else {
+    let Some(opened) = tables.find(who, handle) else {
         return Ok(Truncated::Answered(answer(Reply::Error(Errno::EBADF))));
     };
-    let room = room_by(k.geometry().data_blocks(), data.held());
-    match ask(opened.flags.write, size, data.size(opened.ino), room, needs) {
+    let room = room_by(k.geometry().data_blocks(), files.held());
+    match ask(opened.flags.write, size, files.size(opened.ino), room, needs) {
         Asked::Answered(outcome) => Ok(Truncated::Answered(outcome)),
         Asked::Full { need, left } => Ok(Truncated::RoundOver { need, room: left }),
-        Asked::Goes => give_size(alloc, k, data, opened.ino, size, power),
+        Asked::Goes => give_size(alloc, k, files, opened.ino, size, power),
     }
 }

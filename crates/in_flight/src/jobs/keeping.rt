@@ -12,10 +12,10 @@ use open_files::OpenFiles;
 use posix_types::{Call, Handle, Path, Who};
 
 // The inode of the file that a handle stands for.
-fn handle_file(files: &OpenFiles, who: Who, handle: Handle) -> Option<u32>
-    ensures { result ≡ option_map (λ (d : Description). d.node) (opened files.now.tables who handle) }
+fn handle_file(tables: &OpenFiles, who: Who, handle: Handle) -> Option<u32>
+    ensures { result ≡ option_map (λ (d : Description). d.node) (opened tables.now.tables who handle) }
 {
-    match files.find(who, handle) {
+    match tables.find(who, handle) {
         Some(opened) => Some(opened.ino),
         None => None,
     }
@@ -32,8 +32,8 @@ fn path_file(k: &KSplit, path: &Path) -> Option<u32>
 }
 
 /// The inode of the file that a call waits for, if a job is out of it. Calls that look at names alone wait for none.
-pub fn waits_for(k: &KSplit, files: &OpenFiles, who: Who, call: &Call) -> Option<u32>
-    ensures { WaitsForFile who call.now k.now files.now.tables result }
+pub fn waits_for(k: &KSplit, tables: &OpenFiles, who: Who, call: &Call) -> Option<u32>
+    ensures { WaitsForFile who call.now k.now tables.now.tables result }
 {
     match call {
         Call::Open(_, path, flags) => {
@@ -44,15 +44,15 @@ pub fn waits_for(k: &KSplit, files: &OpenFiles, who: Who, call: &Call) -> Option
             }
         }
         Call::Stat(path) => path_file(k, path),
-        Call::Close(handle) => handle_file(files, who, *handle),
-        Call::Dup(handle, _) => handle_file(files, who, *handle),
-        Call::Read(handle, _) => handle_file(files, who, *handle),
-        Call::Pread(handle, _, _) => handle_file(files, who, *handle),
-        Call::Write(handle, _) => handle_file(files, who, *handle),
-        Call::Pwrite(handle, _, _) => handle_file(files, who, *handle),
-        Call::Seek(handle, _, _) => handle_file(files, who, *handle),
-        Call::Truncate(handle, _) => handle_file(files, who, *handle),
-        Call::Fsync(handle) => handle_file(files, who, *handle),
+        Call::Close(handle) => handle_file(tables, who, *handle),
+        Call::Dup(handle, _) => handle_file(tables, who, *handle),
+        Call::Read(handle, _) => handle_file(tables, who, *handle),
+        Call::Pread(handle, _, _) => handle_file(tables, who, *handle),
+        Call::Write(handle, _) => handle_file(tables, who, *handle),
+        Call::Pwrite(handle, _, _) => handle_file(tables, who, *handle),
+        Call::Seek(handle, _, _) => handle_file(tables, who, *handle),
+        Call::Truncate(handle, _) => handle_file(tables, who, *handle),
+        Call::Fsync(handle) => handle_file(tables, who, *handle),
         Call::Mkdir(_) => None,
         Call::Rmdir(_) => None,
         Call::Unlink(_) => None,
@@ -84,14 +84,14 @@ fn holder_of(pending: &[JobOut], ino: u32, who: Who) -> Option<Who>
 /// is.
 pub fn keeper(
     k: &KSplit,
-    files: &OpenFiles,
+    tables: &OpenFiles,
     pending: &[JobOut],
     who: Who,
     call: &Call,
 ) -> Option<(u32, Who)>
-    ensures { IsKept who call.now k.now files.now.tables pending.now result }
+    ensures { IsKept who call.now k.now tables.now.tables pending.now result }
 {
-    match waits_for(k, files, who, call) {
+    match waits_for(k, tables, who, call) {
         None => None,
         Some(ino) => match holder_of(pending, ino, who) {
             None => None,

@@ -34,7 +34,7 @@ fn room_lacks(p: &Parts, who: Who, call: &Call) -> Option<(u64, u64)>
     };
     laws::jobs_need_what_their_calls_do();
     let needs = needs_now(p, who, call);
-    lacks_room(&p.k, &p.files, &p.data, who, *handle, *size, needs)
+    lacks_room(&p.k, &p.tables, &p.files, who, *handle, *size, needs)
 }
 
 // A `truncate`, of whose file nothing is staged, and for which there is room.
@@ -48,7 +48,7 @@ fn run_truncate(
 ) -> Result<Begun, NoMemory>
     requires on { is_on power.old ≡ true }
     requires turn { IsTurn p.old who (Call.Truncate handle size) }
-    requires bare { HasNothingStaged who handle p.old.files.tables p.old.data }
+    requires bare { HasNothingStaged who handle p.old.tables.tables p.old.files }
     requires enough { HasRoom (seen p.old) who (Call.Truncate handle size) }
     ensures kept { p.new.usable ≡ true → IsKept p.new }
     ensures steps { Steps (2 ^ 16) power.old power.new }
@@ -60,8 +60,8 @@ fn run_truncate(
     match truncate_file(
         alloc,
         &mut p.k,
-        &p.files,
-        &mut p.data,
+        &p.tables,
+        &mut p.files,
         who,
         handle,
         size,
@@ -94,7 +94,7 @@ fn run_fsync(p: &mut Parts, who: Who, handle: Handle, power: &mut Power) -> Begu
     ensures spared { power.new ≡ power.old }
     ensures begun { IsBegunNow who (seen p.old) (seen p.new) power.old power.new (Ok result) }
 {
-    match fsync(&p.files, who, handle) {
+    match fsync(&p.tables, who, handle) {
         Told::Answered(outcome) => {
             add(p, who, Call::Fsync(handle), outcome);
             Begun::Done
@@ -114,7 +114,7 @@ fn run_other(
     requires on { is_on power.old ≡ true }
     requires turn { IsTurn p.old who call }
     requires built { IsBuilt call }
-    requires bare { CutsNothing call p.old.k p.old.data }
+    requires bare { CutsNothing call p.old.k p.old.files }
     requires published { (new : _) → Publishes who call (seen p.old) new }
     ensures kept { p.new.usable ≡ true → IsKept p.new }
     ensures steps { Steps (most_steps call) power.old power.new }
@@ -123,8 +123,8 @@ fn run_other(
     match run_call(
         alloc,
         &mut p.k,
+        &mut p.tables,
         &mut p.files,
-        &mut p.data,
         who,
         &call,
         power,
@@ -156,7 +156,7 @@ fn run_now(
     requires on { is_on power.old ≡ true }
     requires turn { IsTurn p.old who call }
     requires plain { PutsNothing call }
-    requires cuts { CutsNothing call p.old.k p.old.data }
+    requires cuts { CutsNothing call p.old.k p.old.files }
     requires bare { IsBareFor who call p.old }
     requires enough { HasRoom (seen p.old) who call }
     requires published { Publishes who call (seen p.old) (seen p.old) }

@@ -31,9 +31,9 @@ fn file_to_publish(p: &Parts, who: Who, call: &Call) -> Option<u32>
     if !publishes(call) {
         return None;
     }
-    match waits_for(&p.k, &p.files, who, call) {
+    match waits_for(&p.k, &p.tables, who, call) {
         Some(ino) => {
-            if p.data.overlay(ino).runs().is_empty() {
+            if p.files.overlay(ino).runs().is_empty() {
                 None
             } else {
                 Some(ino)
@@ -69,7 +69,7 @@ pub fn publish_first(
     let Some(ino) = file_to_publish(p, who, &call) else {
         return Ok(Some(call));
     };
-    match publish_file(alloc, &mut p.k, &mut p.data, ino, power) {
+    match publish_file(alloc, &mut p.k, &mut p.files, ino, power) {
         Ok(Commit::Done) => Ok(Some(call)),
         Ok(Commit::PowerLost) => {
             lose_call(p, who, call);

@@ -101,9 +101,9 @@ pub fn begin_put(
     match begin_write(
         alloc,
         &mut p.k,
-        &p.files,
+        &p.tables,
         &mut p.staging,
-        &mut p.data,
+        &mut p.files,
         who,
         p.mode,
         put.handle,
@@ -118,7 +118,7 @@ pub fn begin_put(
         }
         Ok(WriteBegun::Written) => {
             let outcome = answer(Reply::Count(count_of(put.bytes)));
-            move_by(&mut p.files, &p.data, who, &call);
+            move_by(&mut p.tables, &p.files, who, &call);
             add(p, who, call, outcome);
             Ok(Begun::Done)
         }

@@ -24,11 +24,11 @@ fn needs_out(mode: Mode, tables: &OpenFiles, files: &FileTable, pending: &[JobOu
 /// How many blocks the jobs that are out need, at the turn of a call.
 pub fn needs_now(p: &Parts, who: Who, call: &Call) -> u64
     requires { IsTurn p.now who call.now }
-    ensures { result ≡ needs_by p.now.mode p.now.files.tables p.now.data p.now.pending.items }
+    ensures { result ≡ needs_by p.now.mode p.now.tables.tables p.now.files p.now.pending.items }
 {
     laws::jobs_need_what_their_calls_do();
     laws::kept_numbers_are_those_of_the_state();
-    needs_out(p.mode, &p.files, &p.data, &p.pending)
+    needs_out(p.mode, &p.tables, &p.files, &p.pending)
 }
 
 /// The call lost its power: it is the unfinished one, and that is one act.

@@ -53,14 +53,14 @@ fn call_of(pending: &[JobOut], who: Who) -> &Call
 // Writes what a landed write has still to write in place, by the mode: in strict mode nothing.
 fn write_front(
     k: &mut KSplit,
-    data: &FileTable,
+    files: &FileTable,
     mode: Mode,
     draft: &Draft,
     call: &Call,
     power: &mut Power,
 ) -> Commit
     requires on { is_on power.old ≡ true }
-    requires can { mode ≢ Mode.Strict → CanPlace k.old data.now draft.now.ino
+    requires can { mode ≢ Mode.Strict → CanPlace k.old files.now draft.now.ino
         (front_start draft.now call.now) (front_bytes draft.now call.now) }
     requires ends { front_end draft.now ≤ draft.now.size }
     ensures steps { Steps (2 ^ 15) power.old power.new }
@@ -68,11 +68,11 @@ fn write_front(
     ensures spared { mode ≡ Mode.Strict → power.new ≡ power.old }
     ensures none { mode ≡ Mode.Strict → (result ≡ Commit.Done) × (k.new ≡ k.old) }
     ensures answer { mode ≢ Mode.Strict
-        → IsFrontAnswer k.old k.new data.now draft.now call.now result }
+        → IsFrontAnswer k.old k.new files.now draft.now call.now result }
 {
     match mode {
         Mode::Strict => Commit::Done,
-        Mode::Sync | Mode::Posix => place_front(k, data, draft, call, power),
+        Mode::Sync | Mode::Posix => place_front(k, files, draft, call, power),
     }
 }
 
@@ -123,14 +123,14 @@ pub fn finish_on(p: &mut Parts, job: FilledJob, slot: u32, power: &mut Power) ->
     let call = call_of(&p.pending, who);
     finish_write(
         &mut p.k,
+        &mut p.tables,
         &mut p.files,
-        &mut p.data,
         &mut p.claims,
         call,
         job,
         slot,
     );
-    match write_front(&mut p.k, &p.data, p.mode, &draft, call, power) {
+    match write_front(&mut p.k, &p.files, p.mode, &draft, call, power) {
         Commit::PowerLost => {
             cut_off(p);
             Finished::PowerLost

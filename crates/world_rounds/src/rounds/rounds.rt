@@ -121,7 +121,7 @@ pub fn end_lines(
     laws::a_checkpoint_ends_a_round();
     p.k.put_log(lines);
     let _lost = p.k.is_lost();
-    match gather(alloc, &mut p.k, &mut p.staging, &mut p.data, power) {
+    match gather(alloc, &mut p.k, &mut p.staging, &mut p.files, power) {
         Err(_) => {
             p.usable = false;
             Err(NoMemory {})

@@ -31,12 +31,12 @@ fn gather_home(
     ensures paid { IsPublishPaid power.new result }
     ensures gathered { HasGathered p.old p.new lines.items result }
     ensures rest { p.new
-        ≡ record p.old { k = p.new.k; staging = p.new.staging; «data» = p.new.data } }
+        ≡ record p.old { k = p.new.k; staging = p.new.staging; files = p.new.files } }
 {
     laws::the_lines_of_a_round_come_home();
     p.k.put_log(lines);
     let _lost = p.k.is_lost();
-    gather(alloc, &mut p.k, &mut p.staging, &mut p.data, power)
+    gather(alloc, &mut p.k, &mut p.staging, &mut p.files, power)
 }
 
 // What is left: the device, the calls that returned, and those that had begun and did not.

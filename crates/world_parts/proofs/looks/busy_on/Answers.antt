@@ -11,9 +11,9 @@ returns-then-not-p-clause-none c = busy_home c.args.p.now c.requires.kept c.requ
 pub returns-clause-none : goal.returns-clause-none
 returns-clause-none c =
     busy_none c.args.p.now c.requires.kept c.requires.awake c.if-not-p.false c.args.who c.args.call.now c.keeper.result
-    (subst (λ (ps : List JobOut). IsKeptBusy c.args.who c.args.call.now c.args.p.now.k c.args.p.now.files.tables ps c.keeper.result) c.deref.ensures.value c.keeper.ensures)
+    (subst (λ (ps : List JobOut). IsKeptBusy c.args.who c.args.call.now c.args.p.now.k c.args.p.now.tables.tables ps c.keeper.result) c.deref.ensures.value c.keeper.ensures)
 
 pub returns-clause-some : goal.returns-clause-some
 returns-clause-some c =
     busy_some c.args.p.now c.requires.kept c.requires.awake c.if-not-p.false c.args.who c.args.call.now c.keeper.result
-    (subst (λ (ps : List JobOut). IsKeptBusy c.args.who c.args.call.now c.args.p.now.k c.args.p.now.files.tables ps c.keeper.result) c.deref.ensures.value c.keeper.ensures)
+    (subst (λ (ps : List JobOut). IsKeptBusy c.args.who c.args.call.now c.args.p.now.k c.args.p.now.tables.tables ps c.keeper.result) c.deref.ensures.value c.keeper.ensures)

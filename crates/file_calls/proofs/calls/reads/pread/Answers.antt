@@ -11,18 +11,18 @@ use Rattle.file_calls.proofs.calls.reads.pread.Goals as goal
 pub bytes_at-requires : goal.bytes_at-requires
 bytes_at-requires c =
     let some = c.requires in
-    readable_file some.geometry_is c.args.k.now c.args.files.now.tables (with_files some.kept c.args.data.now) some.made some.state some.runs c.in-Some.opened.ino
-    (some.runs.open_are_files c.in-Some.opened.ino (handle_open c.args.files.now.tables c.args.who c.args.handle (description_in c.in-Some.opened) c.in-Some.ensures.some.known))
+    readable_file some.geometry_is c.args.k.now c.args.tables.now.tables (with_files some.kept c.args.files.now) some.made some.state some.runs c.in-Some.opened.ino
+    (some.runs.open_are_files c.in-Some.opened.ino (handle_open c.args.tables.now.tables c.args.who c.args.handle (description_in c.in-Some.opened) c.in-Some.ensures.some.known))
 
 pub returns-in-None : goal.returns-in-None
 returns-in-None c power on =
-    let t = c.args.files.now.tables in
-    subst (λ x. IsEnded c.args.who (Call.Pread c.args.handle c.args.place c.args.count) c.args.k.now t c.args.data.now c.args.k.now t c.args.data.now power power (Ok x)) (sym c.answered.ensures)
-    (unread_at c.args.who c.args.handle c.args.k.now t c.args.data.now power on c.in-None.ensures.none c.args.place c.args.count)
+    let t = c.args.tables.now.tables in
+    subst (λ x. IsEnded c.args.who (Call.Pread c.args.handle c.args.place c.args.count) c.args.k.now t c.args.files.now c.args.k.now t c.args.files.now power power (Ok x)) (sym c.answered.ensures)
+    (unread_at c.args.who c.args.handle c.args.k.now t c.args.files.now power on c.in-None.ensures.none c.args.place c.args.count)
 
 pub returns-in_ok-bytes-in-Some : goal.returns-in_ok-bytes-in-Some
 returns-in_ok-bytes-in-Some c power on =
     let o = c.in-Some.ensures.some in
-    let t = c.args.files.now.tables in
-    subst (λ x. IsEnded c.args.who (Call.Pread c.args.handle c.args.place c.args.count) c.args.k.now t c.args.data.now c.args.k.now t c.args.data.now power power (Ok x)) (sym c.answered-in-Some.ensures)
-    (pread_ended c.args.who c.args.handle c.args.k.now t c.args.data.now power on (description_in c.in-Some.opened) o.known o.may c.args.place c.args.count c.in_ok-bytes-in-Some.bytes c.in_ok-bytes-in-Some.ensures)
+    let t = c.args.tables.now.tables in
+    subst (λ x. IsEnded c.args.who (Call.Pread c.args.handle c.args.place c.args.count) c.args.k.now t c.args.files.now c.args.k.now t c.args.files.now power power (Ok x)) (sym c.answered-in-Some.ensures)
+    (pread_ended c.args.who c.args.handle c.args.k.now t c.args.files.now power on (description_in c.in-Some.opened) o.known o.may c.args.place c.args.count c.in_ok-bytes-in-Some.bytes c.in_ok-bytes-in-Some.ensures)

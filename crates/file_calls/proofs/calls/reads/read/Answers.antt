@@ -19,16 +19,16 @@ use Rattle.file_calls.proofs.calls.reads.read.Goals as goal
 pub bytes_at-requires : goal.bytes_at-requires
 bytes_at-requires c =
     let some = c.requires in
-    readable_file some.geometry_is c.args.k.now c.args.files.now.tables (with_files some.kept c.args.data.now) some.made some.state some.runs c.in-Some.opened.ino
-    (some.runs.open_are_files c.in-Some.opened.ino (handle_open c.args.files.now.tables c.args.who c.args.handle (description_in c.in-Some.opened) c.in-Some.ensures.some.known))
+    readable_file some.geometry_is c.args.k.now c.args.tables.now.tables (with_files some.kept c.args.files.now) some.made some.state some.runs c.in-Some.opened.ino
+    (some.runs.open_are_files c.in-Some.opened.ino (handle_open c.args.tables.now.tables c.args.who c.args.handle (description_in c.in-Some.opened) c.in-Some.ensures.some.known))
 
 pub overflow_add-opened : goal.overflow_add-opened
 overflow_add-opened c =
     let some = c.requires in
     let ino = c.in-Some.opened.ino in
-    let files = c.args.data.now in
-    let file = some.runs.open_are_files ino (handle_open c.args.files.now.tables c.args.who c.args.handle (description_in c.in-Some.opened) c.in-Some.ensures.some.known) in
-    let small = size_small some.geometry_is c.args.k.now c.args.files.now.tables (with_files some.kept files) some.made some.state some.runs ino file in
+    let files = c.args.files.now in
+    let file = some.runs.open_are_files ino (handle_open c.args.tables.now.tables c.args.who c.args.handle (description_in c.in-Some.opened) c.in-Some.ensures.some.known) in
+    let small = size_small some.geometry_is c.args.k.now c.args.tables.now.tables (with_files some.kept files) some.made some.state some.runs ino file in
     let bytes = c.in_ok-bytes-in-Some.bytes in
     let counted : c.len.result ≡ length bytes = search rules in
     let many = read_len (size_in files ino) c.in-Some.opened.offset c.args.count in
@@ -42,19 +42,19 @@ overflow_add-opened c =
 
 pub returns-in-None : goal.returns-in-None
 returns-in-None c power on =
-    let t = c.args.files.now.tables in
-    subst (λ x. IsEnded c.args.who (Call.Read c.args.handle c.args.count) c.args.k.now t c.args.data.now c.args.k.now t c.args.data.now power power (Ok x)) (sym c.answered.ensures)
-    (unread c.args.who c.args.handle c.args.k.now t c.args.data.now power on c.in-None.ensures.none c.args.count)
+    let t = c.args.tables.now.tables in
+    subst (λ x. IsEnded c.args.who (Call.Read c.args.handle c.args.count) c.args.k.now t c.args.files.now c.args.k.now t c.args.files.now power power (Ok x)) (sym c.answered.ensures)
+    (unread c.args.who c.args.handle c.args.k.now t c.args.files.now power on c.in-None.ensures.none c.args.count)
 
 pub returns-in_ok-bytes-in-Some : goal.returns-in_ok-bytes-in-Some
 returns-in_ok-bytes-in-Some c power on =
     let o = c.in-Some.ensures.some in
-    let t = c.args.files.now.tables in
+    let t = c.args.tables.now.tables in
     let bytes = c.in_ok-bytes-in-Some.bytes in
     let counted : c.len.result ≡ length bytes = search rules in
     let moved = c.set_offset.ensures.tables
     ∙ ap (λ (n : ℕ). with_offset t (unwrap_or (description_number t.descriptors c.in-Some.opened.key) 0) (c.in-Some.opened.offset + n)) counted
     ∙ ap (λ (m : Option ℕ). with_offset t (unwrap_or m 0) (c.in-Some.opened.offset + length bytes)) o.key
     in
-    subst (λ x. IsEnded c.args.who (Call.Read c.args.handle c.args.count) c.args.k.now t c.args.data.now c.args.k.now c.set_offset.new.self.tables c.args.data.now power power (Ok x)) (sym c.answered-in-Some.ensures)
-    (read_ended c.args.who c.args.handle c.args.k.now t c.args.data.now power on (description_in c.in-Some.opened) o.known o.may c.args.count bytes c.set_offset.new.self.tables c.in_ok-bytes-in-Some.ensures moved)
+    subst (λ x. IsEnded c.args.who (Call.Read c.args.handle c.args.count) c.args.k.now t c.args.files.now c.args.k.now c.set_offset.new.self.tables c.args.files.now power power (Ok x)) (sym c.answered-in-Some.ensures)
+    (read_ended c.args.who c.args.handle c.args.k.now t c.args.files.now power on (description_in c.in-Some.opened) o.known o.may c.args.count bytes c.set_offset.new.self.tables c.in_ok-bytes-in-Some.ensures moved)

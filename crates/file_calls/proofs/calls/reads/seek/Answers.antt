@@ -15,31 +15,31 @@ use Rattle.file_calls.proofs.calls.reads.seek.Goals as goal
 pub base_of-requires : goal.base_of-requires
 base_of-requires c =
     let known = c.find.ensures.description ∙ ap (option_map description_in) c.in-Some.is in
-    let file = c.requires.runs.open_are_files c.in-Some.opened.ino (handle_open c.args.files.now.tables c.args.who c.args.handle (description_in c.in-Some.opened) known) in
+    let file = c.requires.runs.open_are_files c.in-Some.opened.ino (handle_open c.args.tables.now.tables c.args.who c.args.handle (description_in c.in-Some.opened) known) in
     let below = used_below c.args.k.now.volume c.in-Some.opened.ino (ap is_used file) in
     let lines = c.requires.runs.sizes.count in
     omega (arith, below, lines)
 
 pub returns-in-None : goal.returns-in-None
 returns-in-None c power on =
-    let t = c.args.files.now.tables in
+    let t = c.args.tables.now.tables in
     let none = c.find.ensures.description ∙ ap (option_map description_in) c.in-None.is in
-    subst (λ x. IsEnded c.args.who (Call.Seek c.args.handle c.args.whence c.args.by) c.args.k.now t c.args.data.now c.args.k.now t c.args.data.now power power (Ok x)) (sym c.answered.ensures)
-    (seek_unknown c.args.who c.args.handle c.args.whence c.args.by c.args.k.now t c.args.data.now power on none)
+    subst (λ x. IsEnded c.args.who (Call.Seek c.args.handle c.args.whence c.args.by) c.args.k.now t c.args.files.now c.args.k.now t c.args.files.now power power (Ok x)) (sym c.answered.ensures)
+    (seek_unknown c.args.who c.args.handle c.args.whence c.args.by c.args.k.now t c.args.files.now power on none)
 
 pub returns-in-None-moved_place : goal.returns-in-None-moved_place
 returns-in-None-moved_place c power on =
-    let t = c.args.files.now.tables in
+    let t = c.args.tables.now.tables in
     let known = c.find.ensures.description ∙ ap (option_map description_in) c.in-Some.is in
     let place = ap (λ base. moved_place base c.args.by) (sym c.base_of.ensures) ∙ ap (moved_place c.base_of.result) (sym (to_z-of_z {w = w64} c.ranges.by)) ∙ sym c.moved_place.ensures ∙ c.in-None-moved_place.is in
-    subst (λ x. IsEnded c.args.who (Call.Seek c.args.handle c.args.whence c.args.by) c.args.k.now t c.args.data.now c.args.k.now t c.args.data.now power power (Ok x)) (sym c.answered-in-None-moved_place.ensures)
-    (seek_refused c.args.who c.args.handle c.args.whence c.args.by c.args.k.now t c.args.data.now power on (description_in c.in-Some.opened) known place)
+    subst (λ x. IsEnded c.args.who (Call.Seek c.args.handle c.args.whence c.args.by) c.args.k.now t c.args.files.now c.args.k.now t c.args.files.now power power (Ok x)) (sym c.answered-in-None-moved_place.ensures)
+    (seek_refused c.args.who c.args.handle c.args.whence c.args.by c.args.k.now t c.args.files.now power on (description_in c.in-Some.opened) known place)
 
 pub returns-in-Some-moved_place : goal.returns-in-Some-moved_place
 returns-in-Some-moved_place c power on =
-    let t = c.args.files.now.tables in
+    let t = c.args.tables.now.tables in
     let known = c.find.ensures.description ∙ ap (option_map description_in) c.in-Some.is in
     let place = ap (λ base. moved_place base c.args.by) (sym c.base_of.ensures) ∙ ap (moved_place c.base_of.result) (sym (to_z-of_z {w = w64} c.ranges.by)) ∙ sym c.moved_place.ensures ∙ c.in-Some-moved_place.is in
     let moved = c.set_offset.ensures.tables ∙ ap (λ (m : Option ℕ). with_offset t (unwrap_or m 0) c.in-Some-moved_place.place) c.in-Some.ensures.key in
-    subst (λ x. IsEnded c.args.who (Call.Seek c.args.handle c.args.whence c.args.by) c.args.k.now t c.args.data.now c.args.k.now c.set_offset.new.self.tables c.args.data.now power power (Ok x)) (sym c.answered-in-Some-moved_place.ensures)
-    (seek_ended c.args.who c.args.handle c.args.whence c.args.by c.args.k.now t c.args.data.now power on (description_in c.in-Some.opened) known c.in-Some-moved_place.place c.set_offset.new.self.tables place moved)
+    subst (λ x. IsEnded c.args.who (Call.Seek c.args.handle c.args.whence c.args.by) c.args.k.now t c.args.files.now c.args.k.now c.set_offset.new.self.tables c.args.files.now power power (Ok x)) (sym c.answered-in-Some-moved_place.ensures)
+    (seek_ended c.args.who c.args.handle c.args.whence c.args.by c.args.k.now t c.args.files.now power on (description_in c.in-Some.opened) known c.in-Some-moved_place.place c.set_offset.new.self.tables place moved)

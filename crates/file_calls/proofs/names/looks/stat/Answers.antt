@@ -14,8 +14,8 @@ use Rattle.file_calls.proofs.names.looks.stat.Goals as goal
 
 pub returns-in-Err : goal.returns-in-Err
 returns-in-Err c who t power on =
-    subst (λ x. IsEnded who (Call.Stat c.args.path.now) c.args.k.now t c.args.data.now c.args.k.now t c.args.data.now power power (Ok x)) (sym c.answered.ensures)
-    (stat_lost who c.args.path.now c.args.k.now t c.args.data.now power on c.in-Err.errno c.in-Err.ensures)
+    subst (λ x. IsEnded who (Call.Stat c.args.path.now) c.args.k.now t c.args.files.now c.args.k.now t c.args.files.now power power (Ok x)) (sym c.answered.ensures)
+    (stat_lost who c.args.path.now c.args.k.now t c.args.files.now power on c.in-Err.errno c.in-Err.ensures)
 
 pub stat_of-requires : goal.stat_of-requires
 stat_of-requires c file =
@@ -27,13 +27,13 @@ pub returns-in-Some : goal.returns-in-Some
 returns-in-Some c who t power on =
     let v = c.args.k.now.volume in
     let line = line_there v c.in-Ok.ino c.in-Some.inode (sym c.node.ensures ∙ c.in-Some.is) in
-    let reply = c.stat_of.ensures ∙ ap (λ (x : Inode). stat_by x.kind (size_in c.args.data.now c.in-Ok.ino)) line in
-    subst (λ x. IsEnded who (Call.Stat c.args.path.now) c.args.k.now t c.args.data.now c.args.k.now t c.args.data.now power power (Ok x)) (sym (c.answered-in-Some.ensures ∙ ap (λ s. Told.Answered (answer (Reply.Stat s))) reply))
-    (stat_seen who c.args.path.now c.args.k.now t c.args.data.now power on c.in-Ok.ino c.in-Ok.ensures)
+    let reply = c.stat_of.ensures ∙ ap (λ (x : Inode). stat_by x.kind (size_in c.args.files.now c.in-Ok.ino)) line in
+    subst (λ x. IsEnded who (Call.Stat c.args.path.now) c.args.k.now t c.args.files.now c.args.k.now t c.args.files.now power power (Ok x)) (sym (c.answered-in-Some.ensures ∙ ap (λ s. Told.Answered (answer (Reply.Stat s))) reply))
+    (stat_seen who c.args.path.now c.args.k.now t c.args.files.now power on c.in-Ok.ino c.in-Ok.ensures)
 
 pub returns-in-None : goal.returns-in-None
 returns-in-None c who t power on =
     let v = c.args.k.now.volume in
-    let reply = sym (line_free v c.in-Ok.ino (size_in c.args.data.now c.in-Ok.ino) (sym c.node.ensures ∙ c.in-None.is)) in
-    subst (λ x. IsEnded who (Call.Stat c.args.path.now) c.args.k.now t c.args.data.now c.args.k.now t c.args.data.now power power (Ok x)) (sym (c.answered-in-None.ensures ∙ ap (λ s. Told.Answered (answer (Reply.Stat s))) reply))
-    (stat_seen who c.args.path.now c.args.k.now t c.args.data.now power on c.in-Ok.ino c.in-Ok.ensures)
+    let reply = sym (line_free v c.in-Ok.ino (size_in c.args.files.now c.in-Ok.ino) (sym c.node.ensures ∙ c.in-None.is)) in
+    subst (λ x. IsEnded who (Call.Stat c.args.path.now) c.args.k.now t c.args.files.now c.args.k.now t c.args.files.now power power (Ok x)) (sym (c.answered-in-None.ensures ∙ ap (λ s. Told.Answered (answer (Reply.Stat s))) reply))
+    (stat_seen who c.args.path.now c.args.k.now t c.args.files.now power on c.in-Ok.ino c.in-Ok.ensures)

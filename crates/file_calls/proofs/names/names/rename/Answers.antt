@@ -15,8 +15,8 @@ pub returns-in-Ok-None-clause-ended : goal.returns-in-Ok-None-clause-ended
 returns-in-Ok-None-clause-ended c who =
     let p = c.args.path.now in
     let q = c.args.to.now in
-    let t = c.args.files.now.tables in
-    let f = c.args.data.now in
+    let t = c.args.tables.now.tables in
+    let f = c.args.files.now in
     let answer_is = subst (λ o. (let r : Result (Option ℕ) KFault = Ok o in IsRenameAnswer p q c.args.k.now c.rename.new.self r)) c.in-Ok-None.field-0-is (c.in-Ok-None.ensures.answer c.requires.runs.runs.unbatched) in
     let paid = subst (λ o. (let r : Result (Option ℕ) KFault = Ok o in IsPaid (rename_row p q c.args.k.now) c.args.power.now c.rename.new.power r)) c.in-Ok-None.field-0-is c.in-Ok-None.ensures.paid in
     subst (λ x. IsEnded who (Call.Rename p q) c.args.k.now t f c.rename.new.self t f c.args.power.now c.rename.new.power (Ok x)) (sym c.answered.ensures)
@@ -27,22 +27,22 @@ sweep-requires-clause-file c =
     let p = c.args.path.now in
     let q = c.args.to.now in
     let answer_is = subst (λ o. (let r : Result (Option ℕ) KFault = Ok o in IsRenameAnswer p q c.args.k.now c.rename.new.self r)) c.in-Ok-Some.field-0-is (c.in-Ok-Some.ensures.answer c.requires.runs.runs.unbatched) in
-    rename_file p q c.args.k.now c.args.files.now.tables c.args.data.now c.requires.runs c.rename.new.self c.in-Ok-Some.ino answer_is
+    rename_file p q c.args.k.now c.args.tables.now.tables c.args.files.now c.requires.runs c.rename.new.self c.in-Ok-Some.ino answer_is
 
 pub sweep-requires-clause-line : goal.sweep-requires-clause-line
 sweep-requires-clause-line c =
     let p = c.args.path.now in
     let q = c.args.to.now in
     let answer_is = subst (λ o. (let r : Result (Option ℕ) KFault = Ok o in IsRenameAnswer p q c.args.k.now c.rename.new.self r)) c.in-Ok-Some.field-0-is (c.in-Ok-Some.ensures.answer c.requires.runs.runs.unbatched) in
-    rename_line p q c.args.k.now c.args.files.now.tables c.args.data.now c.requires.runs c.rename.new.self c.in-Ok-Some.ino answer_is
+    rename_line p q c.args.k.now c.args.tables.now.tables c.args.files.now c.requires.runs c.rename.new.self c.in-Ok-Some.ino answer_is
 
 pub returns-in-Ok-Some-clause-ended : goal.returns-in-Ok-Some-clause-ended
 returns-in-Ok-Some-clause-ended c who =
     let p = c.args.path.now in
     let q = c.args.to.now in
     let k = c.args.k.now in
-    let t = c.args.files.now.tables in
-    let f = c.args.data.now in
+    let t = c.args.tables.now.tables in
+    let f = c.args.files.now in
     let answer_is = subst (λ o. (let r : Result (Option ℕ) KFault = Ok o in IsRenameAnswer p q k c.rename.new.self r)) c.in-Ok-Some.field-0-is (c.in-Ok-Some.ensures.answer c.requires.runs.runs.unbatched) in
     let paid = subst (λ o. (let r : Result (Option ℕ) KFault = Ok o in IsPaid (rename_row p q k) c.args.power.now c.rename.new.power r)) c.in-Ok-Some.field-0-is c.in-Ok-Some.ensures.paid in
     let over = over_file p q k c.rename.new.self c.in-Ok-Some.ino answer_is in
@@ -53,21 +53,21 @@ returns-in-Ok-Some-clause-ended c who =
 
 pub returns-in-Err-clause-ended : goal.returns-in-Err-clause-ended
 returns-in-Err-clause-ended c who =
-    let t = c.args.files.now.tables in
-    let f = c.args.data.now in
+    let t = c.args.tables.now.tables in
+    let f = c.args.files.now in
     subst (λ x. IsEnded who (Call.Rename c.args.path.now c.args.to.now) c.args.k.now t f c.rename.new.self t f c.args.power.now c.rename.new.power x) (sym c.after_fault.ensures)
     (rename_fault who c.args.path.now c.args.to.now c.args.k.now t f c.requires.spelled c.rename.new.self c.args.power.now c.rename.new.power c.in-Err.fault (c.in-Err.ensures.answer c.requires.runs.runs.unbatched, c.in-Err.ensures.paid))
 
 pub returns-in-Ok-None-clause-ends : goal.returns-in-Ok-None-clause-ends
-returns-in-Ok-None-clause-ends c on = rename_ends c.args.path.now c.args.to.now c.args.k.now c.rename.new.self c.args.data.now c.in-Ok-None.field-0 (c.in-Ok-None.ensures.answer c.requires.runs.runs.unbatched)
+returns-in-Ok-None-clause-ends c on = rename_ends c.args.path.now c.args.to.now c.args.k.now c.rename.new.self c.args.files.now c.in-Ok-None.field-0 (c.in-Ok-None.ensures.answer c.requires.runs.runs.unbatched)
 
 pub returns-in-Ok-Some-clause-ends : goal.returns-in-Ok-Some-clause-ends
 returns-in-Ok-Some-clause-ends c =
-    ends_then c.args.k.now c.rename.new.self c.sweep.new.k c.args.data.now c.args.data.now c.sweep.new.data c.sweep.new.power (rename_ends c.args.path.now c.args.to.now c.args.k.now c.rename.new.self c.args.data.now c.in-Ok-Some.field-0 (c.in-Ok-Some.ensures.answer c.requires.runs.runs.unbatched)) c.sweep.ensures.ends
+    ends_then c.args.k.now c.rename.new.self c.sweep.new.k c.args.files.now c.args.files.now c.sweep.new.files c.sweep.new.power (rename_ends c.args.path.now c.args.to.now c.args.k.now c.rename.new.self c.args.files.now c.in-Ok-Some.field-0 (c.in-Ok-Some.ensures.answer c.requires.runs.runs.unbatched)) c.sweep.ensures.ends
 
 pub returns-in-Err-clause-ends : goal.returns-in-Err-clause-ends
 returns-in-Err-clause-ends c =
-    fault_ends (rename_row c.args.path.now c.args.to.now c.args.k.now) (λ (l : Option ℕ) w. IsRenamed c.args.path.now c.args.to.now c.args.k.now.volume w l) c.args.k.now c.rename.new.self c.args.data.now c.args.power.now c.rename.new.power c.in-Err.fault (c.in-Err.ensures.answer c.requires.runs.runs.unbatched, c.in-Err.ensures.paid)
+    fault_ends (rename_row c.args.path.now c.args.to.now c.args.k.now) (λ (l : Option ℕ) w. IsRenamed c.args.path.now c.args.to.now c.args.k.now.volume w l) c.args.k.now c.rename.new.self c.args.files.now c.args.power.now c.rename.new.power c.in-Err.fault (c.in-Err.ensures.answer c.requires.runs.runs.unbatched, c.in-Err.ensures.paid)
 
 pub sweep-requires-clause-unbatched : goal.sweep-requires-clause-unbatched
 sweep-requires-clause-unbatched c =

@@ -18,8 +18,8 @@ use Rattle.file_calls.proofs.names.opens.close.Goals as goal
 
 pub returns-in-None-clause-ended : goal.returns-in-None-clause-ended
 returns-in-None-clause-ended c =
-    let t = c.args.files.now.tables in
-    let f = c.args.data.now in
+    let t = c.args.tables.now.tables in
+    let f = c.args.files.now in
     let none = c.find.ensures.description ∙ ap (option_map description_in) c.in-None.is in
     subst (λ x. IsEnded c.args.who (Call.Close c.args.handle) c.args.k.now t f c.args.k.now t f c.args.power.now c.args.power.now (Ok x)) (sym c.answered.ensures)
     (nothing_ended c.args.who (Call.Close c.args.handle) c.args.k.now c.args.k.now t f (answer (Reply.Error Errno.EBADF)) c.args.power.now c.args.power.now refl c.requires.power
@@ -27,16 +27,16 @@ returns-in-None-clause-ended c =
 
 pub returns-then-named-clause-ended : goal.returns-then-named-clause-ended
 returns-then-named-clause-ended c =
-    let t = c.args.files.now.tables in
-    let f = c.args.data.now in
+    let t = c.args.tables.now.tables in
+    let f = c.args.files.now in
     let known = c.find.ensures.description ∙ ap (option_map description_in) c.in-Some.is in
     subst (λ x. IsEnded c.args.who (Call.Close c.args.handle) c.args.k.now t f c.args.k.now c.close.new.self.tables f c.args.power.now c.args.power.now (Ok x)) (sym c.answered-then-named.ensures)
     (close_stays c.args.who c.args.handle c.args.k.now t c.close.new.self.tables f (description_in c.in-Some.opened) known c.close.ensures.tables c.args.power.now c.args.power.now (inl (c.named.ensures.0 c.if-named.true)) c.requires.power)
 
 pub returns-then-is_open-clause-ended : goal.returns-then-is_open-clause-ended
 returns-then-is_open-clause-ended c =
-    let t = c.args.files.now.tables in
-    let f = c.args.data.now in
+    let t = c.args.tables.now.tables in
+    let f = c.args.files.now in
     let known = c.find.ensures.description ∙ ap (option_map description_in) c.in-Some.is in
     subst (λ x. IsEnded c.args.who (Call.Close c.args.handle) c.args.k.now t f c.args.k.now c.close.new.self.tables f c.args.power.now c.args.power.now (Ok x)) (sym c.answered-then-is_open.ensures)
     (close_stays c.args.who c.args.handle c.args.k.now t c.close.new.self.tables f (description_in c.in-Some.opened) known c.close.ensures.tables c.args.power.now c.args.power.now (inr (sym c.is_open.ensures ∙ c.if-is_open.true))
@@ -45,14 +45,14 @@ returns-then-is_open-clause-ended c =
 pub drop_node-requires-clause-may : goal.drop_node-requires-clause-may
 drop_node-requires-clause-may c still =
     let known = c.find.ensures.description ∙ ap (option_map description_in) c.in-Some.is in
-    let file = c.requires.runs.runs.open_are_files c.in-Some.opened.ino (handle_open c.args.files.now.tables c.args.who c.args.handle (description_in c.in-Some.opened) known) in
+    let file = c.requires.runs.runs.open_are_files c.in-Some.opened.ino (handle_open c.args.tables.now.tables c.args.who c.args.handle (description_in c.in-Some.opened) known) in
     may_drop c.args.k.now.volume c.in-Some.opened.ino file (no_name c.named.result _ c.named.ensures c.if-named.false)
 
 pub clear-requires-clause-below : goal.clear-requires-clause-below
 clear-requires-clause-below c =
     let known = c.find.ensures.description ∙ ap (option_map description_in) c.in-Some.is in
     let file : (inode c.args.k.now.volume c.in-Some.opened.ino).kind ≡ File =
-    c.requires.runs.runs.open_are_files c.in-Some.opened.ino (handle_open c.args.files.now.tables c.args.who c.args.handle (description_in c.in-Some.opened) known)
+    c.requires.runs.runs.open_are_files c.in-Some.opened.ino (handle_open c.args.tables.now.tables c.args.who c.args.handle (description_in c.in-Some.opened) known)
     in
     let below = used_below c.args.k.now.volume c.in-Some.opened.ino (ap is_used file) in
     let lines = c.requires.runs.runs.sizes.count in
@@ -60,10 +60,10 @@ clear-requires-clause-below c =
 
 pub returns-in-Ok-clause-ended : goal.returns-in-Ok-clause-ended
 returns-in-Ok-clause-ended c =
-    let t = c.args.files.now.tables in
+    let t = c.args.tables.now.tables in
     let t2 = c.close.new.self.tables in
     let k = c.args.k.now in
-    let f = c.args.data.now in
+    let f = c.args.files.now in
     let known = c.find.ensures.description ∙ ap (option_map description_in) c.in-Some.is in
     let shut = sym c.is_open.ensures ∙ c.if-is_open.false in
     let half = close_half c.args.who c.args.handle k t t2 f (description_in c.in-Some.opened) known c.close.ensures.tables (no_name c.named.result _ c.named.ensures c.if-named.false) shut in
@@ -75,10 +75,10 @@ returns-in-Ok-clause-ended c =
 
 pub returns-in-Err-clause-ended : goal.returns-in-Err-clause-ended
 returns-in-Err-clause-ended c =
-    let t = c.args.files.now.tables in
+    let t = c.args.tables.now.tables in
     let t2 = c.close.new.self.tables in
     let k = c.args.k.now in
-    let f = c.args.data.now in
+    let f = c.args.files.now in
     let known = c.find.ensures.description ∙ ap (option_map description_in) c.in-Some.is in
     let shut = sym c.is_open.ensures ∙ c.if-is_open.false in
     let half = close_half c.args.who c.args.handle k t t2 f (description_in c.in-Some.opened) known c.close.ensures.tables (no_name c.named.result _ c.named.ensures c.if-named.false) shut in
@@ -92,9 +92,9 @@ pub returns-in-Ok-clause-ends : goal.returns-in-Ok-clause-ends
 returns-in-Ok-clause-ends c =
     let known = c.find.ensures.description ∙ ap (option_map description_in) c.in-Some.is in
     let file : (inode c.args.k.now.volume c.in-Some.opened.ino).kind ≡ File =
-    c.requires.runs.runs.open_are_files c.in-Some.opened.ino (handle_open c.args.files.now.tables c.args.who c.args.handle (description_in c.in-Some.opened) known)
+    c.requires.runs.runs.open_are_files c.in-Some.opened.ino (handle_open c.args.tables.now.tables c.args.who c.args.handle (description_in c.in-Some.opened) known)
     in
-    drop_ends c.in-Some.opened.ino c.args.k.now c.drop_node.new.self c.args.data.now c.clear.new.self c.drop_node.new.power (used_below c.args.k.now.volume c.in-Some.opened.ino (ap is_used file)) (c.in-Ok.ensures.answer c.requires.runs.runs.unbatched) c.clear.ensures.file
+    drop_ends c.in-Some.opened.ino c.args.k.now c.drop_node.new.self c.args.files.now c.clear.new.self c.drop_node.new.power (used_below c.args.k.now.volume c.in-Some.opened.ino (ap is_used file)) (c.in-Ok.ensures.answer c.requires.runs.runs.unbatched) c.clear.ensures.file
 
 pub returns-in-Err-clause-ends : goal.returns-in-Err-clause-ends
 returns-in-Err-clause-ends c on =

@@ -12,18 +12,18 @@ use Rattle.file_calls.proofs.names.opens.open_missing.Goals as goal
 
 pub returns-then-not-flags-clause-ended : goal.returns-then-not-flags-clause-ended
 returns-then-not-flags-clause-ended c f =
-    subst (λ x. IsEnded c.args.who (Call.Open c.args.handle c.args.path.now c.args.flags) c.args.k.now c.args.files.now.tables f c.args.k.now c.args.files.now.tables f c.args.power.now c.args.power.now (Ok x)) (sym c.answered.ensures)
-    (open_missing_stays c.args.who c.args.handle c.args.path.now c.args.flags c.args.k.now c.args.files.now.tables f c.args.power.now c.requires.power c.requires.missing (clear_flag c.args.flags.create c.if-not-flags.true))
+    subst (λ x. IsEnded c.args.who (Call.Open c.args.handle c.args.path.now c.args.flags) c.args.k.now c.args.tables.now.tables f c.args.k.now c.args.tables.now.tables f c.args.power.now c.args.power.now (Ok x)) (sym c.answered.ensures)
+    (open_missing_stays c.args.who c.args.handle c.args.path.now c.args.flags c.args.k.now c.args.tables.now.tables f c.args.power.now c.requires.power c.requires.missing (clear_flag c.args.flags.create c.if-not-flags.true))
 
 pub returns-then-is_full-clause-ended : goal.returns-then-is_full-clause-ended
 returns-then-is_full-clause-ended c f =
-    subst (λ x. IsEnded c.args.who (Call.Open c.args.handle c.args.path.now c.args.flags) c.args.k.now c.args.files.now.tables f c.args.k.now c.args.files.now.tables f c.args.power.now c.args.power.now (Ok x)) (sym c.answered-then-is_full.ensures)
-    (open_missing_full c.args.who c.args.handle c.args.path.now c.args.flags c.args.k.now c.args.files.now.tables f c.args.power.now c.requires.power c.requires.missing (set_flag c.args.flags.create c.if-not-flags.false)
+    subst (λ x. IsEnded c.args.who (Call.Open c.args.handle c.args.path.now c.args.flags) c.args.k.now c.args.tables.now.tables f c.args.k.now c.args.tables.now.tables f c.args.power.now c.args.power.now (Ok x)) (sym c.answered-then-is_full.ensures)
+    (open_missing_full c.args.who c.args.handle c.args.path.now c.args.flags c.args.k.now c.args.tables.now.tables f c.args.power.now c.requires.power c.requires.missing (set_flag c.args.flags.create c.if-not-flags.false)
     (sym c.is_full.ensures ∙ c.if-is_full.true))
 
 pub returns-in-Ok-open-clause-ended : goal.returns-in-Ok-open-clause-ended
 returns-in-Ok-open-clause-ended c f =
-    let t = c.args.files.now.tables in
+    let t = c.args.tables.now.tables in
     let free = subst (λ x. free_descriptor x ≡ Some c.in-Ok-open.descriptor) c.reserve.ensures.tables c.in-Ok-open.ensures.lowest in
     let opened = c.in-Ok-open.ensures.ok ∙ ap (λ x. with_opened x c.args.who c.args.handle (opening_of c.in-Ok.ino c.args.flags)) c.reserve.ensures.tables in
     subst (λ x. IsEnded c.args.who (Call.Open c.args.handle c.args.path.now c.args.flags) c.args.k.now t f c.make.new.self c.open.new.self.tables f c.args.power.now c.make.new.power (Ok x)) (sym c.answered-in-Ok-open.ensures)
@@ -32,14 +32,14 @@ returns-in-Ok-open-clause-ended c f =
 
 pub returns-in-Err-clause-ended : goal.returns-in-Err-clause-ended
 returns-in-Err-clause-ended c f =
-    let t = c.args.files.now.tables in
+    let t = c.args.tables.now.tables in
     subst (λ x. IsEnded c.args.who (Call.Open c.args.handle c.args.path.now c.args.flags) c.args.k.now t f c.make.new.self c.reserve.new.self.tables f c.args.power.now c.make.new.power x) (sym c.after_fault.ensures)
     (subst (λ x. IsEnded c.args.who (Call.Open c.args.handle c.args.path.now c.args.flags) c.args.k.now t f c.make.new.self x f c.args.power.now c.make.new.power (told_of c.in-Err.fault)) (sym c.reserve.ensures.tables)
     (created_fault c.args.who c.args.handle c.args.path.now c.args.flags c.args.k.now t f c.requires.spelled c.requires.missing (set_flag c.args.flags.create c.if-not-flags.false) (sym c.is_full.ensures ∙ c.if-is_full.false)
     c.make.new.self c.args.power.now c.make.new.power c.in-Err.fault (c.in-Err.ensures.answer c.requires.unbatched, c.in-Err.ensures.paid)))
 
 pub returns-in-Ok-open-clause-ends : goal.returns-in-Ok-open-clause-ends
-returns-in-Ok-open-clause-ends c f some = make_ends false c.args.path.now c.args.k.now c.make.new.self c.args.files.now.tables f c.make.new.power c.in-Ok.ino some (c.in-Ok.ensures.answer c.requires.unbatched)
+returns-in-Ok-open-clause-ends c f some = make_ends false c.args.path.now c.args.k.now c.make.new.self c.args.tables.now.tables f c.make.new.power c.in-Ok.ino some (c.in-Ok.ensures.answer c.requires.unbatched)
 
 pub returns-in-Err-clause-ends : goal.returns-in-Err-clause-ends
 returns-in-Err-clause-ends c f some =

@@ -8,12 +8,12 @@ use Rattle.file_calls.proofs.names.opens.open_there.Goals as goal
 
 pub returns-in-Ok : goal.returns-in-Ok
 returns-in-Ok c power on =
-    subst (λ x. IsEnded c.args.who (Call.Open c.args.handle c.args.path.now c.args.flags) c.args.k.now c.args.files.now.tables c.args.data.now c.args.k.now c.open.new.self.tables c.args.data.now power power (Ok x)) (sym c.answered.ensures)
-    (open_found_done c.args.who c.args.handle c.args.path.now c.args.flags c.args.k.now c.args.files.now.tables c.args.data.now power on c.args.ino c.in-Ok.descriptor c.open.new.self.tables c.requires.found c.requires.shared c.requires.file
+    subst (λ x. IsEnded c.args.who (Call.Open c.args.handle c.args.path.now c.args.flags) c.args.k.now c.args.tables.now.tables c.args.files.now c.args.k.now c.open.new.self.tables c.args.files.now power power (Ok x)) (sym c.answered.ensures)
+    (open_found_done c.args.who c.args.handle c.args.path.now c.args.flags c.args.k.now c.args.tables.now.tables c.args.files.now power on c.args.ino c.in-Ok.descriptor c.open.new.self.tables c.requires.found c.requires.shared c.requires.file
     c.requires.stays c.in-Ok.ensures.lowest c.in-Ok.ensures.ok)
 
 pub returns-in-Err : goal.returns-in-Err
 returns-in-Err c power on =
-    subst (λ x. IsEnded c.args.who (Call.Open c.args.handle c.args.path.now c.args.flags) c.args.k.now c.args.files.now.tables c.args.data.now c.args.k.now c.open.new.self.tables c.args.data.now power power x) (sym c.after_open_fault.ensures)
-    (open_found_fault c.args.who c.args.handle c.args.path.now c.args.flags c.args.k.now c.args.files.now.tables c.args.data.now power on c.args.ino c.open.new.self.tables c.args.files.now c.in-Err.fault refl c.in-Err.ensures.err c.requires.found
+    subst (λ x. IsEnded c.args.who (Call.Open c.args.handle c.args.path.now c.args.flags) c.args.k.now c.args.tables.now.tables c.args.files.now c.args.k.now c.open.new.self.tables c.args.files.now power power x) (sym c.after_open_fault.ensures)
+    (open_found_fault c.args.who c.args.handle c.args.path.now c.args.flags c.args.k.now c.args.tables.now.tables c.args.files.now power on c.args.ino c.open.new.self.tables c.args.tables.now c.in-Err.fault refl c.in-Err.ensures.err c.requires.found
     c.requires.shared (ap is_directory c.requires.file) c.in-Err.ensures.cause)

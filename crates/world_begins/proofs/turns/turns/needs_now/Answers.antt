@@ -9,5 +9,5 @@ needs_out-requires-clause-lines c = lines_there c.args.p.now c.args.who c.args.c
 
 pub needs_out-requires-clause-small : goal.needs_out-requires-clause-small
 needs_out-requires-clause-small c =
-    subst (λ (jobs : List JobOut). needs_by c.args.p.now.mode c.args.p.now.files.tables c.args.p.now.data jobs < 2 ^ 64) (sym c.deref.ensures.value)
+    subst (λ (jobs : List JobOut). needs_by c.args.p.now.mode c.args.p.now.tables.tables c.args.p.now.files jobs < 2 ^ 64) (sym c.deref.ensures.value)
     (few_needs c.args.p.now c.args.who c.args.call.now c.requires c.jobs_need_what_their_calls_do.ensures c.kept_numbers_are_those_of_the_state.ensures.room)

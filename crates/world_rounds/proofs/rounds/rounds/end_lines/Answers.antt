@@ -8,11 +8,11 @@ use Rattle.world_rounds.proofs.rounds.rounds.end_lines.Goals as goal
 
 pub put_log-requires-clause-lines : goal.put_log-requires-clause-lines
 put_log-requires-clause-lines c =
-    (c.the_lines_of_a_round_come_home.ensures.may c.args.p.now.k c.args.p.now.files.tables c.args.p.now.staging c.args.p.now.data (seen c.args.p.now) c.args.lines.items c.requires.kept.world c.requires.awake c.requires.may.lines_are).lines_are
+    (c.the_lines_of_a_round_come_home.ensures.may c.args.p.now.k c.args.p.now.tables.tables c.args.p.now.staging c.args.p.now.files (seen c.args.p.now) c.args.lines.items c.requires.kept.world c.requires.awake c.requires.may.lines_are).lines_are
 
 pub put_log-requires-clause-out : goal.put_log-requires-clause-out
 put_log-requires-clause-out c =
-    (c.the_lines_of_a_round_come_home.ensures.may c.args.p.now.k c.args.p.now.files.tables c.args.p.now.staging c.args.p.now.data (seen c.args.p.now) c.args.lines.items c.requires.kept.world c.requires.awake c.requires.may.lines_are).out
+    (c.the_lines_of_a_round_come_home.ensures.may c.args.p.now.k c.args.p.now.tables.tables c.args.p.now.staging c.args.p.now.files (seen c.args.p.now) c.args.lines.items c.requires.kept.world c.requires.awake c.requires.may.lines_are).out
 
 pub gather-requires-clause-may : goal.gather-requires-clause-may
 gather-requires-clause-may c on =
@@ -55,13 +55,13 @@ pub returns-in-Ok-PowerLost-clause-kept : goal.returns-in-Ok-PowerLost-clause-ke
 returns-in-Ok-PowerLost-clause-kept c usable =
     inside_kept c.a_checkpoint_ends_a_round.ensures.inside c.args.p.now c.put_log.new.self c.gather.new.k c.gather.new.staging c.gather.new.files c.args.lines.items c.requires.kept
     (ending_of c.the_lines_of_a_round_come_home.ensures.ready c.args.p.now c.put_log.new.self c.args.lines.items c.requires.kept c.requires.awake c.requires.may.none_out c.requires.may.lines_are c.put_log.ensures.same c.is_lost-lost.ensures.order c.put_log.ensures.back c.put_log.ensures.home)
-    (subst (λ (commit : Commit). IsGatherAnswer c.args.p.now.data c.put_log.new.self c.gather.new.staging c.gather.new.files c.gather.new.k (Ok commit)) c.in-Ok-PowerLost.field-0-is c.in-Ok-PowerLost.ensures.answer)
+    (subst (λ (commit : Commit). IsGatherAnswer c.args.p.now.files c.put_log.new.self c.gather.new.staging c.gather.new.files c.gather.new.k (Ok commit)) c.in-Ok-PowerLost.field-0-is c.in-Ok-PowerLost.ensures.answer)
 
 pub returns-in-Ok-Done-clause-kept : goal.returns-in-Ok-Done-clause-kept
 returns-in-Ok-Done-clause-kept c usable =
     next_kept c.a_checkpoint_ends_a_round.ensures.done c.a_checkpoint_ends_a_round.ensures.applied c.args.p.now c.go_on.new.p c.put_log.new.self c.gather.new.k c.gather.new.staging c.gather.new.files c.args.lines.items c.requires.kept c.requires.may
     (ending_of c.the_lines_of_a_round_come_home.ensures.ready c.args.p.now c.put_log.new.self c.args.lines.items c.requires.kept c.requires.awake c.requires.may.none_out c.requires.may.lines_are c.put_log.ensures.same c.is_lost-lost.ensures.order c.put_log.ensures.back c.put_log.ensures.home)
-    (subst (λ (commit : Commit). IsGatherAnswer c.args.p.now.data c.put_log.new.self c.gather.new.staging c.gather.new.files c.gather.new.k (Ok commit)) c.in-Ok-Done.field-0-is c.in-Ok-Done.ensures.answer)
+    (subst (λ (commit : Commit). IsGatherAnswer c.args.p.now.files c.put_log.new.self c.gather.new.staging c.gather.new.files c.gather.new.k (Ok commit)) c.in-Ok-Done.field-0-is c.in-Ok-Done.ensures.answer)
     c.go_on.ensures.claims c.go_on.ensures.none c.go_on.ensures.next
 
 pub returns-in-Ok-Done-clause-answer : goal.returns-in-Ok-Done-clause-answer
@@ -69,5 +69,5 @@ returns-in-Ok-Done-clause-answer c =
     let paid = rw c.in-Ok-Done.field-0-is at c.in-Ok-Done.ensures.paid in
     next_answer c.a_checkpoint_ends_a_round.ensures.done c.a_checkpoint_ends_a_round.ensures.applied c.args.p.now c.go_on.new.p c.put_log.new.self c.gather.new.k c.gather.new.staging c.gather.new.files c.args.lines.items c.requires.kept c.requires.may
     (ending_of c.the_lines_of_a_round_come_home.ensures.ready c.args.p.now c.put_log.new.self c.args.lines.items c.requires.kept c.requires.awake c.requires.may.none_out c.requires.may.lines_are c.put_log.ensures.same c.is_lost-lost.ensures.order c.put_log.ensures.back c.put_log.ensures.home)
-    (subst (λ (commit : Commit). IsGatherAnswer c.args.p.now.data c.put_log.new.self c.gather.new.staging c.gather.new.files c.gather.new.k (Ok commit)) c.in-Ok-Done.field-0-is c.in-Ok-Done.ensures.answer)
+    (subst (λ (commit : Commit). IsGatherAnswer c.args.p.now.files c.put_log.new.self c.gather.new.staging c.gather.new.files c.gather.new.k (Ok commit)) c.in-Ok-Done.field-0-is c.in-Ok-Done.ensures.answer)
     c.go_on.ensures.claims c.go_on.ensures.none c.go_on.ensures.next c.gather.new.power paid

@@ -381,7 +381,7 @@ run_starts w first = record {
     any = record { given = refl; on_before = λ on. on; later = omega arith; bound = omega arith };
     ahead = omega arith;
     quiet = λ calm quiet. record { given = refl; on_before = λ on. on; later = omega arith; bound = omega arith };
-    tree = λ given some. record { changed = 0; fewer = omega arith; most = omega arith; each = subst (λ (h : List Item). ChangesTreeAtMost w.start h 0) (sym first.history) tt };
+    tree = λ given some. record { changed = 0; fewer = omega arith; most = omega arith; each = λ mode. subst (λ (h : List Item). ChangesTreeAtMost w.start h 0) (sym first.history) tt };
   };
 } where
   nobody : (p : JobOut) → In p w.pending → ⊥

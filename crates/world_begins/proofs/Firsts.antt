@@ -45,7 +45,7 @@ bare_for p who (Call.Fsync h) has = tt
 bare_for p who (Call.Stat path) has = tt
 bare_for p who (Call.List path) has = tt
 
-published_by : (old p : Parts) (who : Who) (call : Call) → old.claims ≡ p.claims → old.files ≡ p.files → HasBareFile p.k p.tables.tables p.staging p.files (seen p) who call → Publishes who call (seen old) (seen p)
+published_by : (old p : Parts) (who : Who) (call : Call) → old.claims ≡ p.claims → old.tables ≡ p.tables → HasBareFile p.k p.tables.tables p.staging p.files (seen p) who call → Publishes who call (seen old) (seen p)
 published_by old p who (Call.Fsync h) claims files has =
     bare_publishes p.k p.tables.tables p.staging p.files (seen p) who h (seen old) (seen p) has (λ i. (claims i).items) (λ i. (files i).tables) refl
 published_by old p who (Call.Mkdir path) claims files has = tt

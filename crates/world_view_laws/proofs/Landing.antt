@@ -102,7 +102,7 @@ module _ (k : View) (t : Tables) (staging : Staged) (files : Files) (w : WorldVi
         cut_out : IsLostOut staging laid cut_view
         cut_out = let still = world.going on in record {
           volume = k.volume;
-          geometry = still.stands.geometry;
+          geometry = (still.stands world.mode).geometry;
           base = sym still.base;
           none_home = still.none_home;
           size = (loses.left can_place.t can_place.now can_place.placing).size ∙ landed.home.back.size ∙ size_now k t staging files w world on;

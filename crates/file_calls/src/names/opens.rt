@@ -163,7 +163,9 @@ fn open_found(
         return Ok(answered(Reply::Error(Errno::EISDIR)));
     }
     if is_cut(files, ino, flags) {
-        return open_cut(alloc, k, tables, files, who, handle, path, ino, flags, power);
+        return open_cut(
+            alloc, k, tables, files, who, handle, path, ino, flags, power,
+        );
     }
     open_there(k, tables, files, who, handle, path, ino, flags)
 }
@@ -231,7 +233,9 @@ pub fn open(
     ensures ends { KeepsEnds k.old files.old k.new files.new power.new }
 {
     match k.find(path) {
-        Ok(ino) => open_found(alloc, k, tables, files, who, handle, path, ino, flags, power),
+        Ok(ino) => open_found(
+            alloc, k, tables, files, who, handle, path, ino, flags, power,
+        ),
         Err(_) => match k.directory_of(path) {
             Err(errno) => Ok(answered(Reply::Error(errno))),
             Ok(_) => open_missing(alloc, k, tables, who, handle, path, flags, power),

@@ -76,7 +76,13 @@ pub fn truncate_file(
         return Ok(Truncated::Answered(answer(Reply::Error(Errno::EBADF))));
     };
     let room = room_by(k.geometry().data_blocks(), files.held());
-    match ask(opened.flags.write, size, files.size(opened.ino), room, needs) {
+    match ask(
+        opened.flags.write,
+        size,
+        files.size(opened.ino),
+        room,
+        needs,
+    ) {
         Asked::Answered(outcome) => Ok(Truncated::Answered(outcome)),
         Asked::Full { need, left } => Ok(Truncated::RoundOver { need, room: left }),
         Asked::Goes => give_size(alloc, k, files, opened.ino, size, power),

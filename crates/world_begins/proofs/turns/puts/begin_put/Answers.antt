@@ -74,7 +74,7 @@ returns-in-Ok-Written-clause-kept c usable =
     let took = c.in-Ok-Written.ensures.took (ap (λ (b : WriteBegun). (let r : Result WriteBegun AllocError = Ok b in r)) c.in-Ok-Written.field-0-is) in
     let tables = subst (λ (x : Call). c.move_by.new.tables.tables ≡ moved_by c.args.p.now.tables.tables c.begin_write.new.files c.args.who x) c.in-Some.ensures c.move_by.ensures in
     let replied = c.answer-outcome.ensures ∙ ap (λ (n : ℕ). answer (Reply.Count n)) c.count_of.ensures in
-    (put_written c.args.p.now c.args.who c.in-Some.put.handle c.in-Some.put.at c.in-Some.put.bytes.now (subst (IsTurn c.args.p.now c.args.who) c.in-Some.ensures c.requires.turn) c.jobs_need_what_their_calls_do.ensures c.kept_numbers_are_those_of_the_state.ensures.lines c.needs_now-needs.result c.needs_now-needs.ensures c.begin_write.new.k c.begin_write.new.staging c.begin_write.new.files (c.in-Ok-Written.ensures.keeps paid) begun (record c.args.p.now { files = c.move_by.new.tables }) tables c.answer-outcome.result replied c.add-in-Ok-Written.new.p
+    (put_written c.args.p.now c.args.who c.in-Some.put.handle c.in-Some.put.at c.in-Some.put.bytes.now (subst (IsTurn c.args.p.now c.args.who) c.in-Some.ensures c.requires.turn) c.jobs_need_what_their_calls_do.ensures c.kept_numbers_are_those_of_the_state.ensures.lines c.needs_now-needs.result c.needs_now-needs.ensures c.begin_write.new.k c.begin_write.new.staging c.begin_write.new.files (c.in-Ok-Written.ensures.keeps paid) begun (record c.args.p.now { tables = c.move_by.new.tables }) tables c.answer-outcome.result replied c.add-in-Ok-Written.new.p
     (subst (λ (x : Call). IsAdded c.args.who x c.answer-outcome.result (record c.args.p.now { k = c.begin_write.new.k; tables = c.move_by.new.tables; staging = c.begin_write.new.staging; files = c.begin_write.new.files }) c.add-in-Ok-Written.new.p) c.in-Some.ensures c.add-in-Ok-Written.ensures) c.args.power.now c.begin_write.new.power paid took).0
 
 pub returns-in-Ok-Written-clause-begun : goal.returns-in-Ok-Written-clause-begun
@@ -84,7 +84,7 @@ returns-in-Ok-Written-clause-begun c =
     let took = c.in-Ok-Written.ensures.took (ap (λ (b : WriteBegun). (let r : Result WriteBegun AllocError = Ok b in r)) c.in-Ok-Written.field-0-is) in
     let tables = subst (λ (x : Call). c.move_by.new.tables.tables ≡ moved_by c.args.p.now.tables.tables c.begin_write.new.files c.args.who x) c.in-Some.ensures c.move_by.ensures in
     let replied = c.answer-outcome.ensures ∙ ap (λ (n : ℕ). answer (Reply.Count n)) c.count_of.ensures in
-    (put_written c.args.p.now c.args.who c.in-Some.put.handle c.in-Some.put.at c.in-Some.put.bytes.now (subst (IsTurn c.args.p.now c.args.who) c.in-Some.ensures c.requires.turn) c.jobs_need_what_their_calls_do.ensures c.kept_numbers_are_those_of_the_state.ensures.lines c.needs_now-needs.result c.needs_now-needs.ensures c.begin_write.new.k c.begin_write.new.staging c.begin_write.new.files (c.in-Ok-Written.ensures.keeps paid) begun (record c.args.p.now { files = c.move_by.new.tables }) tables c.answer-outcome.result replied c.add-in-Ok-Written.new.p
+    (put_written c.args.p.now c.args.who c.in-Some.put.handle c.in-Some.put.at c.in-Some.put.bytes.now (subst (IsTurn c.args.p.now c.args.who) c.in-Some.ensures c.requires.turn) c.jobs_need_what_their_calls_do.ensures c.kept_numbers_are_those_of_the_state.ensures.lines c.needs_now-needs.result c.needs_now-needs.ensures c.begin_write.new.k c.begin_write.new.staging c.begin_write.new.files (c.in-Ok-Written.ensures.keeps paid) begun (record c.args.p.now { tables = c.move_by.new.tables }) tables c.answer-outcome.result replied c.add-in-Ok-Written.new.p
     (subst (λ (x : Call). IsAdded c.args.who x c.answer-outcome.result (record c.args.p.now { k = c.begin_write.new.k; tables = c.move_by.new.tables; staging = c.begin_write.new.staging; files = c.begin_write.new.files }) c.add-in-Ok-Written.new.p) c.in-Some.ensures c.add-in-Ok-Written.ensures) c.args.power.now c.begin_write.new.power paid took).1
 
 pub returns-in-Ok-Job-clause-kept : goal.returns-in-Ok-Job-clause-kept

@@ -68,24 +68,34 @@ reserve g = reserve_for (data_blocks g)
 abbrev pub nodes : Geometry → ℕ
 nodes g = g.inodes - 4
 
+-- the most that an image of a version has: log lines, inode lines and name lines
+abbrev pub most_log_of : ℕ → ℕ
+most_log_of version = 1024
+
+abbrev pub most_inodes_of : ℕ → ℕ
+most_inodes_of version = 1024
+
+abbrev pub most_names_of : ℕ → ℕ
+most_names_of version = 4096
+
 -- the numbers are in range, and at least 32 data blocks are left
 pub record IsGeometry (g : Geometry) : Type 0 where
   pub version : g.version ≡ 1
   pub least_blocks : 64 ≤ g.blocks
   pub most_blocks : g.blocks ≤ 16384
   pub least_log : 4 ≤ g.log
-  pub most_log : g.log ≤ 1024
+  pub most_log : g.log ≤ most_log_of g.version
   pub least_inodes : 16 ≤ g.inodes
-  pub most_inodes : g.inodes ≤ 1024
+  pub most_inodes : g.inodes ≤ most_inodes_of g.version
   pub least_names : 16 ≤ g.names
-  pub most_names : g.names ≤ 4096
+  pub most_names : g.names ≤ most_names_of g.version
   pub least_data : first_data g + 32 ≤ g.blocks
 
 -- the same as a test of the four numbers, the version apart
 abbrev pub is_in_range : Geometry → Bool
 is_in_range g =
-    nat_le 64 g.blocks && nat_le g.blocks 16384 && nat_le 4 g.log && nat_le g.log 1024
-    && nat_le 16 g.inodes && nat_le g.inodes 1024 && nat_le 16 g.names && nat_le g.names 4096
+    nat_le 64 g.blocks && nat_le g.blocks 16384 && nat_le 4 g.log && nat_le g.log (most_log_of g.version)
+    && nat_le 16 g.inodes && nat_le g.inodes (most_inodes_of g.version) && nat_le 16 g.names && nat_le g.names (most_names_of g.version)
     && nat_le (first_data g + 32) g.blocks
 
 -- a line of n lines from the first one on

@@ -3,6 +3,7 @@ use Rattle.std.proofs.Common.{◌≡◌, ◌≤◌, ◌<◌, ◌+◌, ◌-◌, �
 use Rattle.std.proofs.lemmas.List.{drop_all}
 use Rattle.log_laws.specs.pm_model.PowerLaws.{Steps-none, Steps-then}
 use Rattle.log_laws.specs.pm_model.Powers.{Steps, Supply}
+use Rattle.log_laws.specs.image_model.Room.{unused_blocks}
 use Rattle.log_laws.specs.image_model.Volume.{inode}
 use Rattle.file_overlay.specs.declared.runs.Run.{Run}
 use Rattle.k_split.specs.k_split_model.View.{View}
@@ -13,8 +14,18 @@ use Rattle.k_split.specs.MapChanges.{free_blocks_in, IsMovedSingle, IsRelinkAnsw
 use Rattle.k_split.specs.k_split_model.declared.map_changes.moves.Move.{Move}
 use Rattle.k_split.specs.Order.{IsInOrder}
 use Rattle.k_split.specs.declared.faults.KFault.{KFault}
+use Rattle.k_split.proofs.k_plans_proofs.FreeCounts.{unwaiting-counted}
 use Rattle.fsync_relink.specs.Publishes.{AreRelinked, IsPublishPaid, IsRelinkedEach, IsRelinkedUpTo, IsResizedOnce, MayPublish, move_of, size_before, stopped_by}
 use Rattle.fsync_relink.proofs.NextLaws.{may-move, moved-single, next-may}
+
+-- where changes do not gather the unused blocks are those that are free
+pub all-unused : (k : View) → IsInOrder k → k.batched ≡ false → free_blocks_in k ≡ unused_blocks k.volume
+all-unused k order unbatched = unwaiting-counted (record { volume = k.volume; aside = []; waiting = k.waiting }) refl (order.none_waits unbatched)
+
+-- the first change that publishes finds the blocks that it asks for
+pub publish-room : (ino size : ℕ) (runs : List Run) (k : View) → IsInOrder k → k.batched ≡ false → MayPublish ino size runs k
+    → reserve k.volume.geometry ≤ unused_blocks k.volume + 3
+publish-room ino size runs k order unbatched may = omega (arith, all-unused k order unbatched, may.room)
 
 -- these runs are left, and K-Split stands at l, where they may be published
 pub record IsOnTheWay (ino size : ℕ) (runs left : List Run) (k l : View) : Type 0 where
@@ -130,5 +141,5 @@ pub way-home : (ino size : ℕ) (runs : List Run) (run : Run) (left : List Run) 
 way-home ino size runs run left k l m way is = subst (λ x. IsMovedSingle x l.volume l.cells) (sym is) (moved-single ino size run left l way.may)
 
 pub way-room : (ino size : ℕ) (runs : List Run) (place : ℕ) (k l : View) → place < length runs → IsOnTheWay ino size runs (drop place runs) k l
-    → reserve l.volume.geometry ≤ free_blocks_in l + 2
-way-room ino size runs place k l below way = omega (arith, way.may.room, length-drop place runs, below)
+    → reserve l.volume.geometry ≤ unused_blocks l.volume + 2
+way-room ino size runs place k l below way = omega (arith, all-unused l way.order way.unbatched, way.may.room, length-drop place runs, below)

@@ -257,7 +257,7 @@ switched-chain_is v ino x blocks es w is whole below =
 -- a plan with one new map
 pub plan-one : (t : TablesView) (w : Volume) (b : List Record) (c : NewChain) → IsCanonical c.extents
     → AreLowest (is_free_block t) (chains_for (length c.extents)) c.blocks → Turns t.volume.geometry (c ∷ []) t.volume w b
-    → w.geometry ≡ t.volume.geometry → 0 < length b → length b ≤ 4 → IsWhole w → IsMapPlan (c ∷ []) t.volume w b
+    → w.geometry ≡ t.volume.geometry → 0 < length b → length b ≤ 5 → IsWhole w → IsMapPlan (c ∷ []) t.volume w b
 plan-one t w b c canonical lowest turns geometry some most whole = record {
   turns = turns;
   geometry = geometry;

@@ -64,7 +64,7 @@ both-turns m t t1 w left linked rest blocks line1 line2 news v b0 b1 b2 is1 is2 
 -- ---- numbers
 
 -- two inodes have no block in common, and each its own once
-two-once : (v : Volume) (i j b : ℕ) → IsWhole v → i < length v.inodes → j < length v.inodes → i ≢ j
+pub two-once : (v : Volume) (i j b : ℕ) → IsWhole v → i < length v.inodes → j < length v.inodes → i ≢ j
     → in_map (extents v i) b + in_map (extents v j) b ≤ 1
 two-once v i j b whole i_below j_below apart = elim (cases_lt 0 (in_map (extents v i) b)) [
   | inl has ↦ by (own-data v i b whole.kept.kept whole.kept.all i_below (omega arith))
@@ -278,19 +278,19 @@ go-both-as m u left left1 rest rest1 gone linked linked1 blocks blocks1 freed le
 
 -- ---- a plan with two new maps
 
-distinct-left : (xs ys : List ℕ) → AreDistinct (xs ++ ys) → AreDistinct xs
+pub distinct-left : (xs ys : List ℕ) → AreDistinct (xs ++ ys) → AreDistinct xs
 distinct-left xs ys distinct j k before below same =
     distinct j k before (omega (arith, below, length-append xs ys))
     (get_or_append_left xs ys 0 j (omega arith) ∙ same ∙ sym (get_or_append_left xs ys 0 k below))
 
-distinct-right : (xs ys : List ℕ) → AreDistinct (xs ++ ys) → AreDistinct ys
+pub distinct-right : (xs ys : List ℕ) → AreDistinct (xs ++ ys) → AreDistinct ys
 distinct-right xs ys distinct j k before below same =
     distinct (length xs + j) (length xs + k) (omega arith) (omega (arith, below, length-append xs ys)) (right j ∙ same ∙ sym (right k))
   where
     right : (i : ℕ) → block_at (xs ++ ys) (length xs + i) ≡ block_at ys i
     right i = get_or-append_right xs ys (length xs) (length xs + i) 0 refl (omega arith) ∙ ap (block_at ys) (omega arith)
 
-distinct-apart : (xs ys : List ℕ) → AreDistinct (xs ++ ys) → AreApart xs ys
+pub distinct-apart : (xs ys : List ℕ) → AreDistinct (xs ++ ys) → AreApart xs ys
 distinct-apart xs ys distinct j k below within same =
     distinct j (length xs + k) (omega arith) (omega (arith, within, length-append xs ys))
     (get_or_append_left xs ys 0 j below ∙ same ∙ sym (get_or-append_right xs ys (length xs) (length xs + k) 0 refl (omega arith) ∙ ap (block_at ys) (omega arith)))
@@ -298,7 +298,7 @@ distinct-apart xs ys distinct j k below within same =
 pub plan-two : (t : TablesView) (w : Volume) (b : List Record) (file staging : NewChain) (n : ℕ) (taken : List ℕ) → IsCanonical file.extents
     → IsCanonical staging.extents → AreLowest (is_free_block t) n taken → taken ≡ file.blocks ++ staging.blocks
     → length file.blocks ≡ chains_for (length file.extents) → length staging.blocks ≡ chains_for (length staging.extents)
-    → Turns t.volume.geometry (file ∷ staging ∷ []) t.volume w b → w.geometry ≡ t.volume.geometry → 0 < length b → length b ≤ 4 → IsWhole w
+    → Turns t.volume.geometry (file ∷ staging ∷ []) t.volume w b → w.geometry ≡ t.volume.geometry → 0 < length b → length b ≤ 5 → IsWhole w
     → IsMapPlan (file ∷ staging ∷ []) t.volume w b
 plan-two t w b file staging n taken file_map staging_map lowest parts file_size staging_size turns geometry some most whole = record {
   turns = turns;

@@ -1,5 +1,5 @@
 -- A reset is a line of the inode that keeps its map.
-use Rattle.std.proofs.Common.{◌≡◌, ◌∙◌, ◌^◌, ℕ, Bool, true, false, List, [], refl, sym, ap, subst}
+use Rattle.std.proofs.Common.{◌≡◌, ◌≤◌, ◌∙◌, ◌^◌, ℕ, Bool, true, false, List, [], length, refl, sym, ap, arith, subst}
 use Rattle.std.proofs.lemmas.List.{set-get_or}
 use Rattle.std.specs.Prelude.{◌&&◌, nat_le, OnErr, OnOk, Result, Ok, Err, slice_set}
 use Rattle.std.specs.declared.alloc.AllocError.{AllocError}
@@ -52,18 +52,18 @@ kept-reset v ino own i =
 
 pub reset-answer : (t u : TablesView) (ino : ℕ) (b : List Record) (r : Result (Unit {0}) AllocError) → HasOwnMap t.volume ino
     → OnOk r (u ≡ with_volume (kept_map ino (unapplied (inode t.volume ino)) t.volume) t) → OnOk r (IsMapPlan [] t.volume u.volume b)
-    → OnOk r (SetsFreedAside t u) → OnErr r (u ≡ t) → OnErr r (b ≡ []) → IsResetPlan ino t u b r
-reset-answer t u ino b (Ok done) own kept plan aside same none =
+    → OnOk r (length b ≤ 1) → OnOk r (SetsFreedAside t u) → OnErr r (u ≡ t) → OnErr r (b ≡ []) → IsResetPlan ino t u b r
+reset-answer t u ino b (Ok done) own kept plan line aside same none =
     let now : u ≡ with_volume (reset ino t.volume) t = kept ∙ (λ i. with_volume (kept-reset t.volume ino own i) t) in (
       now,
       record {
         turns = plan.turns;
         some = plan.some;
-        most = plan.most;
+        most = omega (arith, line);
         aside = aside;
         waiting = ap (λ (x : TablesView). x.waiting) now;
         staged = λ n least most. ap (λ (x : TablesView). extents x.volume n) now;
         whole = plan.whole;
       },
     )
-reset-answer t u ino b (Err e) own kept plan aside same none = record { same = same; no_lines = none }
+reset-answer t u ino b (Err e) own kept plan line aside same none = record { same = same; no_lines = none }

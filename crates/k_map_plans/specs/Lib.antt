@@ -1,8 +1,12 @@
 pub mod Going
+pub mod Landings
+pub mod LandingSteps
+pub mod Linking
 pub mod Moving
 pub mod Plans
 pub mod ResetLaws
 pub mod Resets
+pub mod Steps
 pub use Rattle.k_plans.specs.block_pool
 pub use Rattle.k_plans.specs.image_model
 pub use Rattle.extent_map.specs.extent_model

@@ -1,22 +1,20 @@
 -- What the plans of changes of maps answer and leave.
 use Rattle.std.specs.Prelude.{◌≡◌, ◌≢◌, ◌≤◌, ◌<◌, ◌+◌, ◌-◌, ◌^◌, ◌==◌, nat_lt, ℕ, Bool, true, false, List, [], ◌∷◌, length, Option, None, Some, Result, Ok, Err}
 use Rattle.std.specs.declared.alloc.AllocError.{AllocError}
-use Rattle.layout_model.specs.declared.lines.Kind.TheVariants.{File, Staging}
 use Rattle.k_plans.specs.layout_model.Places.{reserve}
-use Rattle.k_plans.specs.image_model.Volume.{Volume, chain, extents, inode}
+use Rattle.k_plans.specs.image_model.Volume.{Volume, extents}
 use Rattle.k_relink.specs.extent_model.declared.extent_words.Extent.{Extent}
 use Rattle.k_plans.specs.k_journal.declared.batches.Record.{Record}
-use Rattle.k_plans.specs.LandingsPlans.{NewChain, blocks_of}
-use Rattle.k_plans.specs.Free.{SetsFreedAside, free_blocks, is_free_block}
-use Rattle.k_plans.specs.Switching.{IsMapPlan}
+use Rattle.k_plans.specs.LandingsPlans.{NewChain}
+use Rattle.k_plans.specs.Free.{free_blocks, is_free_block}
 use Rattle.k_plans.specs.View.{TablesView}
-use Rattle.k_plans.specs.k_split_model.MapChangesChanges.{Fills, HasInOrder, given_up, holes, IsFilled, IsMoved, IsPreallocated, IsSized, WritesChain}
+pub use Rattle.k_plans.specs.MapPlans.{IsLiveFile, IsPlannedChange, IsPlannedMove, IsPlannedOne, IsStagingFile, listed, MayMove}
+use Rattle.k_plans.specs.k_split_model.MapChangesChanges.{Fills, HasInOrder, given_up, holes, IsFilled, IsMoved, IsPreallocated, IsSized}
 use Rattle.k_plans.specs.k_split_model.Taken.{AreLowest}
 use Rattle.k_plans.specs.k_split_model.declared.map_changes.moves.Move.{Move}
 use Rattle.k_relink.specs.extent_model.Maps.{IsPart}
-use Rattle.k_relink.specs.extent_model.Moves.{IsMapped, Moves}
+use Rattle.k_relink.specs.extent_model.Moves.{Moves}
 use Rattle.block_counts.specs.Counts.{blocks_for, chains_for}
-use Rattle.layout_model.specs.block_counts.declared.TheConstants.{LONGEST_FILE}
 use Rattle.k_map_plans.specs.declared.map_plans.faults.MapFault.{MapFault}
 use Rattle.posix_types.specs.declared.item.Outcome.{Outcome}
 use Rattle.posix_types.specs.declared.reply.Errno.{Errno}
@@ -24,16 +22,6 @@ use Rattle.posix_types.specs.declared.reply.Reply.{Reply}
 use Rattle.posix_types.specs.declared.reply.Room.{Room}
 use Rattle.posix_types.specs.declared.reply.What.{What}
 use Rattle.k_plans.specs.posix_tables.Outcomes.{answer, first, idle_row, space_row}
-
--- a file in use
-pub record IsLiveFile (ino : ℕ) (v : Volume) : Type 0 where
-  pub below : ino < length v.inodes
-  pub file : (inode v ino).kind ≡ File
-
--- a staging file, inode 1 to 4
-pub record IsStagingFile (staging : ℕ) (v : Volume) : Type 0 where
-  pub below : staging < length v.inodes
-  pub kind : (inode v staging).kind ≡ Staging
 
 -- a change that is not planned: nothing is changed, and no line is set
 pub record IsNotPlanned (old new : TablesView) (b : List Record) : Type 0 where
@@ -44,25 +32,6 @@ pub record IsNotPlanned (old new : TablesView) (b : List Record) : Type 0 where
 abbrev pub IsNotMade : (ℕ → Type 0) → TablesView → TablesView → List Record → MapFault → Type 0
 IsNotMade wants old new b MapFault.Few = ((n : ℕ) × wants n × (free_blocks old < n)) × IsNotPlanned old new b
 IsNotMade wants old new b MapFault.NoMemory = IsNotPlanned old new b
-
--- a change is planned, with one new map, that of the inode
-pub record IsPlannedOne (ino : ℕ) (old new : TablesView) (b : List Record) (c : NewChain) : Type 0 where
-  pub plan : IsMapPlan (c ∷ []) old.volume new.volume b
-  pub chain_is : c.blocks ≡ chain new.volume ino
-  pub aside : SetsFreedAside old new
-  pub waiting : new.waiting ≡ old.waiting
-
--- the new maps of a plan that may need none
-abbrev pub listed : Option NewChain → List NewChain
-listed None = []
-listed (Some c) = c ∷ []
-
--- a change is planned, with a new map of the inode where its map changes, and else with none
-pub record IsPlannedChange (ino : ℕ) (old new : TablesView) (b : List Record) (o : Option NewChain) : Type 0 where
-  pub plan : IsMapPlan (listed o) old.volume new.volume b
-  pub written : WritesChain ino old.volume new.volume (blocks_of (listed o))
-  pub aside : SetsFreedAside old new
-  pub waiting : new.waiting ≡ old.waiting
 
 -- How many blocks a cut wants: where something is cut off, those of a chain for what is left of the map.
 abbrev pub WantsToCut : ℕ → ℕ → Volume → ℕ → Type 0
@@ -126,24 +95,6 @@ abbrev pub IsPreallocatePlan : ℕ → ℕ → TablesView → TablesView → Lis
 IsPreallocatePlan staging count old new b (Ok c) =
     IsPreallocated (is_free_block old) staging count old.volume new.volume × IsPlannedOne staging old new b c
 IsPreallocatePlan staging count old new b (Err fault) = IsNotMade (WantsToPreallocate count old) old new b fault
-
--- What a move asks for: a staging file that has its blocks, and a live file with place for them.
-pub record MayMove (m : Move) (v : Volume) : Type 0 where
-  pub staging : IsStagingFile m.staging v
-  pub file : IsLiveFile m.ino v
-  pub some : 1 ≤ m.count
-  pub there : IsMapped (extents v m.staging) m.staging_block m.count
-  pub place : m.file_block + m.count ≤ 4096
-  pub size : m.size ≤ LONGEST_FILE
-  pub applied : m.applied ≤ 2 ^ 63
-
--- a move is planned, with the new maps of the file and of the staging file
-pub record IsPlannedMove (m : Move) (old new : TablesView) (b : List Record) (file staging : NewChain) : Type 0 where
-  pub plan : IsMapPlan (file ∷ staging ∷ []) old.volume new.volume b
-  pub file_chain : file.blocks ≡ chain new.volume m.ino
-  pub staging_chain : staging.blocks ≡ chain new.volume m.staging
-  pub aside : SetsFreedAside old new
-  pub waiting : new.waiting ≡ old.waiting
 
 -- how many blocks a move wants: those of a chain for the file's map, and those of one for the staging file's
 abbrev pub WantsToMove : Move → Volume → ℕ → Type 0

@@ -2,23 +2,14 @@
 use Rattle.std.specs.Prelude.{◌≡◌, ◌<◌, ℕ, List, length, None, Result, Ok, Err}
 use Rattle.std.specs.declared.alloc.AllocError.{AllocError}
 use Rattle.layout_model.specs.pm_model.Words.{Words}
-use Rattle.layout_model.specs.declared.lines.Inode.{Inode}
 use Rattle.k_plans.specs.image_model.Content.{found}
 use Rattle.k_plans.specs.image_model.Live.{entry_in, live_entries}
-use Rattle.k_plans.specs.image_model.Reading.{node_set}
-use Rattle.k_plans.specs.image_model.Volume.{Volume, inode}
+use Rattle.k_plans.specs.image_model.Volume.{Volume}
 use Rattle.k_plans.specs.k_journal.declared.batches.Record.{Record}
 use Rattle.k_map_plans.specs.Plans.{IsNotPlanned}
 use Rattle.k_plans.specs.PlansPlans.{IsPlan}
 use Rattle.k_plans.specs.View.{TablesView, with_volume}
-
--- a line of which no entry is applied
-abbrev pub unapplied : Inode → Inode
-unapplied x = record x { applied = 0 }
-
--- The file has applied no entry; all else is as before.
-abbrev pub reset : ℕ → Volume → Volume
-reset ino v = node_set ino (unapplied (inode v ino)) v
+pub use Rattle.k_plans.specs.MapPlans.{reset, unapplied}
 
 -- a reset is planned, or nothing where memory runs out
 abbrev pub IsResetPlan : ℕ → TablesView → TablesView → List Record → Result (Unit {0}) AllocError → Type 0

@@ -11,10 +11,13 @@
 mod faults;
 mod filling;
 mod going;
+mod landing;
+mod linking;
 mod lists;
 mod moving;
 mod sizing;
 mod staging;
+mod steps;
 
 pub use faults::MapFault;
 pub use filling::{may_fill, plan_fill};
@@ -23,6 +26,7 @@ pub use k_plans::{
     Batch, Commit, Geometry, Kind, NewMap, PlanFault, Recovered, Tables, fresh_image, land,
     land_maps, read_base, read_inodes, read_maps, read_names, recover,
 };
+pub use landing::plan_landing;
 pub use moving::plan_move;
 pub use sizing::plan_size;
 pub use staging::{plan_give_up, plan_preallocate};

@@ -1,5 +1,6 @@
 //! Calls on maps, each made where what it asks for is there.
-ghost use Rattle.std.specs.Prelude.{◌+◌, ◌≤◌, IsTrue, OnOk};
+ghost use Rattle.std.specs.Prelude.{◌≡◌, ◌+◌, ◌≤◌, [], IsTrue, OnOk};
+ghost use Rattle.k_check.specs.image_model.Room.{unused_blocks};
 ghost use Rattle.k_check.specs.layout_model.Places.{reserve};
 ghost use Rattle.k_split.specs.MapChanges.{free_blocks_in};
 ghost use Rattle.k_split.specs.k_split_model.View.{View};
@@ -37,6 +38,14 @@ pub fn has_free(k: &KSplit, count: u32, less: u32) -> bool
         <= u64::from(k.free_blocks()) + u64::from(less)
 }
 
+// Whether the reserve, less so many, is there among the blocks that nothing uses. No block waits.
+fn has_reserve(k: &KSplit, less: u32) -> bool
+    requires { k.now.waiting ≡ [] }
+    ensures { IsTrue result → reserve k.now.volume.geometry ≤ unused_blocks k.now.volume + less }
+{
+    has_free(k, 0, less)
+}
+
 fn size(
     k: &mut KSplit,
     alloc: Global,
@@ -47,7 +56,7 @@ fn size(
     requires { IsFresh k.old }
     ensures { IsLeft k.new result }
 {
-    if !is_file(k, ino) || u64::from(size) > LONGEST || !has_free(k, 0, 3) {
+    if !is_file(k, ino) || u64::from(size) > LONGEST || !has_reserve(k, 3) {
         return Ok(Reply::Unfit);
     }
     reply_of(k.set_size(alloc, ino, u64::from(size), power))
@@ -100,7 +109,7 @@ fn relink(k: &mut KSplit, alloc: Global, asked: &Move, power: &mut Power) -> Res
     requires { IsFresh k.old }
     ensures { IsLeft k.new result }
 {
-    if !may_move(k, asked) || !has_free(k, 0, 2) {
+    if !may_move(k, asked) || !has_reserve(k, 2) {
         return Ok(Reply::Unfit);
     }
     reply_of(k.relink(alloc, asked, power))

@@ -2,6 +2,7 @@ pub mod LandingLaws
 pub mod Landings
 pub mod LandingsLaws
 pub mod Maps
+pub mod MapPlans
 pub mod PlanLaws
 pub mod LandingsPlans
 pub mod WrittenLaws

@@ -37,13 +37,13 @@ pub record IsHeld (old new : TablesView) : Type 0 where
 abbrev pub switched_tables : ℕ → Inode → List ℕ → List Extent → List ℕ → TablesView → TablesView
 switched_tables ino x blocks es aside t = record t { volume = switched ino x blocks es t.volume; aside = aside }
 
--- The batch is a plan for a change of maps from v to w: with the new maps in free blocks its lines, one to four, turn v into
+-- The batch is a plan for a change of maps from v to w: with the new maps in free blocks its lines, one to five, turn v into
 -- w, which is whole again. The new maps may be written one after the other, within the steps of a change.
 pub record IsMapPlan (news : List NewChain) (v w : Volume) (b : List Record) : Type 0 where
   pub turns : Turns v.geometry news v w b
   pub geometry : w.geometry ≡ v.geometry
   pub some : 0 < length b
-  pub most : length b ≤ 4
+  pub most : length b ≤ 5
   pub unused : All (λ t. is_unused v t ≡ true) (blocks_of news)
   pub distinct : (k : ℕ) → k < length news → AreDistinct (new_at news k).blocks
   pub apart : (j k : ℕ) → j < k → k < length news → AreApart (new_at news j).blocks (new_at news k).blocks

@@ -1,4 +1,4 @@
--- Bytes of a file that are written over in place: the device stands at the same volume.
+-- Bytes of a file that are written over in place: the device stands where it stood.
 use Rattle.std.proofs.Common.{◌≡◌, ℕ, zero, suc, ◌+◌, ◌-◌, ◌*◌, ◌/◌, ◌<◌, ◌≤◌, Bool, true, false, All, List, [], ◌∷◌, length, Option, Some, None, refl, sym, ◌∙◌, ap, subst, arith, inl, inr}
 use Rattle.std.specs.Prelude.{IsSome}
 use Rattle.std.proofs.lemmas.Bool.{cases_lt}
@@ -7,36 +7,39 @@ use Rattle.std.proofs.lemmas.List.{get_or_past}
 use Rattle.block_io.specs.pm_model.declared.Cell.{Cell}
 use Rattle.block_io.specs.pm_model.declared.Cell.TheVariants.{Single}
 use Rattle.block_io.specs.pm_model.CellLaws.{settled-single}
-use Rattle.block_io.specs.pm_model.Cells.{cell, is_single, IsCandidate, newest, Settles}
+use Rattle.block_io.specs.pm_model.Cells.{cell, is_single, newest, Settles}
 use Rattle.block_io.specs.pm_model.Frames.{KeepsSingle, SameLent}
-use Rattle.block_io.specs.pm_model.Images.{Follows, IsImage}
+use Rattle.block_io.specs.pm_model.ImageLaws.{IsImage-words_of}
+use Rattle.block_io.specs.pm_model.Images.{Follows, IsImage, words_of}
 use Rattle.block_io.specs.pm_model.Words.{Words}
-use Rattle.block_io.specs.layout_model.Journal.{is_journal_word, journaled}
-use Rattle.block_io.specs.layout_model.Places.{commit_word, Geometry, is_data_block, is_journaled_line}
+use Rattle.block_io.specs.layout_model.Journal.{journaled}
+use Rattle.block_io.specs.layout_model.Places.{commit_word, Geometry, is_data_block}
 use Rattle.block_io.specs.extent_model.declared.extent_words.Extent.{Extent}
 use Rattle.block_io.specs.extent_model.Extents.{covers, disk_at, IsCanonical}
 use Rattle.block_io.specs.extent_model.Covers.{covers-disk_at}
 use Rattle.block_io.specs.extent_model.Facts.{disk_at-past}
 use Rattle.layout_model.specs.declared.lines.Kind.{Kind}
 use Rattle.layout_model.specs.declared.lines.Kind.TheVariants.{File, Free}
-use Rattle.block_io.specs.image_model.Placed.{block_at}
+use Rattle.block_io.specs.image_model.Reading.{Reads}
 use Rattle.block_io.specs.image_model.Rules.{file_blocks_of, IsKindAt, IsNamedOnce}
 use Rattle.block_io.specs.image_model.Volume.{chain, extents, free_inode, inode, Volume}
-use Rattle.k_tables.specs.volume_laws.ImageLaws.{journal-outside, journaled-same}
-use Rattle.k_tables.specs.volume_laws.ReadingLaws.{reads-same}
-use Rattle.k_tables.specs.volume_laws.SetLaws.{journaled-outside}
-use Rattle.k_map_plans.specs.volume_laws.OwnerLaws.{no_chain_has, one_owner, one_user}
+use Rattle.k_map_plans.specs.volume_laws.OwnerLaws.{one_owner, one_user}
 use Rattle.k_map_plans.specs.volume_laws.PoolLaws.{covered-in_data}
 use Rattle.k_map_plans.specs.volume_laws.UseLaws.{in_map-covers, length-uses_by}
 use Rattle.k_map_plans.specs.volume_laws.Uses.{uses_of}
 use Rattle.block_io.specs.Overwrites.{IsBesideBlocks, IsOverwritten, IsOverwrittenWhole, MayOverwrite, StandsIn}
+use Rattle.k_group_commit.specs.BesideLaws.{ChangesOthers, reads-others, rests-uncovered, RestsOn}
+use Rattle.k_group_commit.specs.Gathered.{IsCovered}
 use Rattle.k_map_plans.specs.k_journal.declared.batches.Record.{Record}
+use Rattle.k_map_plans.specs.k_plans.LandingLaws.{idle-image, idle-sound}
 use Rattle.k_map_plans.specs.k_plans.View.{TablesView}
 use Rattle.k_map_plans.specs.k_plans.Whole.{IsWhole}
-use Rattle.k_tables.specs.k_split_model.Stands.{Stands}
 use Rattle.k_tables.specs.k_split_model.View.{View}
 use Rattle.k_split.specs.Bytes.{IsOverwriteCut, IsOverwriteDone, IsWrittenOver, MayWriteBytes, Overwrites}
-use Rattle.k_split.specs.Order.{IsReady, IsUnstaged, IsUnstagedSingle, view_of}
+use Rattle.k_split.specs.Order.{IsReady, IsSteady, IsUnstaged, IsUnstagedSingle, view_of}
+use Rattle.k_split.proofs.Beside.{ready-others, view-reads}
+use Rattle.k_split.proofs.Ready.{committed-is, device-same, in-order}
+use Rattle.k_split.proofs.Steady.{steady-reads}
 
 low_file : (ino : ℕ) (kind : Kind) → IsKindAt ino kind → kind ≡ File → 5 ≤ ino
 low_file ino kind at is = subst (IsKindAt ino) is at
@@ -51,7 +54,8 @@ pub one_of : (g : Geometry) (b : ℕ) → is_data_block g b ≡ true → All (λ
 one_of g b is zero c short = is
 one_of g b is (suc i) c short = absurd (omega (arith, short))
 
-module _ (v : Volume) (d : List Cell) (ino first count : ℕ) (whole : IsWhole v) (stands : Stands v.geometry v d) (below : ino < length v.inodes) where
+module _ (v : Volume) (d : List Cell) (ino first count : ℕ) (whole : IsWhole v) (size : length d ≡ 512 * v.geometry.blocks)
+    (below : ino < length v.inodes) where
   has_block : (p b : ℕ) → StandsIn (extents v ino) first count p b → covers (extents v ino) b ≡ true
   has_block p b is = covers-disk_at (extents v ino) (p / 4096) b is.at
 
@@ -85,7 +89,7 @@ module _ (v : Volume) (d : List Cell) (ino first count : ℕ) (whole : IsWhole v
       → MayOverwrite (extents v ino) first count d
   may_overwrite mapped single = record {
     mapped = mapped;
-    in_device = λ p b is. let size = stands.size in within b (in_data p b is) size;
+    in_device = λ p b is. within b (in_data p b is) size;
     apart = λ p q b is at. (one_owner v b ino ino (p / 4096) (q / 4096) (once p b is) below below is.at at.at).place;
     single = single;
   } where
@@ -98,93 +102,97 @@ module _ (v : Volume) (d : List Cell) (ino first count : ℕ) (whole : IsWhole v
   file_single file unstaged p b i is at =
       unstaged i (subst (λ n. is_data_block v.geometry n ≡ true) (sym at) (in_data p b is)) (subst (IsUnstaged v) (sym at) (is_unstaged file p b is))
 
-  -- words of the journal, of journaled lines and of chains are in no block of the file
-  pub journal_beside : (w : ℕ) → is_journal_word w ≡ true → IsBesideBlocks (extents v ino) first count w
-  journal_beside w journal p b is at = journal-outside v.geometry (b ∷ []) w (one_of v.geometry b (in_data p b is)) journal 0 (omega arith) (sym at)
+-- ---- what is left of a write
 
-  line_beside : (w : ℕ) → is_journaled_line v.geometry (w / 8) ≡ true → IsBesideBlocks (extents v ino) first count w
-  line_beside w line p b is at = journaled-outside v.geometry (b ∷ []) w (one_of v.geometry b (in_data p b is)) line 0 (omega arith) (sym at)
+module _ (t : TablesView) (group b : List Record) (d : List Cell) (batched : Bool) (ready : IsReady t group b d batched) (ino first : ℕ) (bytes : List ℕ)
+    (below : ino < length t.volume.inodes) where
+  -- nothing that gathered rests on a block of the range
+  pub rests-over : RestsOn t.volume.geometry ready.committed ready.opened.news (IsBesideBlocks (extents t.volume ino) first (length bytes))
+  rests-over =
+      rests-uncovered ready.committed t group d ready.opened (IsBesideBlocks (extents t.volume ino) first (length bytes))
+      (λ i bare p c is at.
+      bare (subst (IsCovered t.volume) (sym at) (ino, below, covers-disk_at (extents t.volume ino) (p / 4096) c is.at)))
 
-  chain_beside : (n k j : ℕ) → n < v.geometry.inodes → k < length (chain v n) → j < 512 → IsBesideBlocks (extents v ino) first count (512 * block_at (chain v n) k + j)
-  chain_beside n k j short within word p b is at =
-      no_chain_has v b ino n k (once p b is) below (omega (arith, short, whole.kept.all.inode_count)) (has_block p b is) within (omega (arith, at, word))
+  idle-over : (before image : Words) → IsImage d before → IsOverwritten (extents t.volume ino) first bytes before image → image commit_word ≡ 0
+  idle-over before image from is =
+      is.words commit_word (rests-over.low commit_word (omega arith)) ∙ idle-image d before ready.opened.are.stands.idle from
 
-module _ (v : Volume) (d e : List Cell) (ino first : ℕ) (bytes : List ℕ) (whole : IsWhole v) (stands : Stands v.geometry v d) (below : ino < length v.inodes) where
-  same_seen : (before image : Words) → IsOverwritten (extents v ino) first bytes before image → (w : ℕ) → IsBesideBlocks (extents v ino) first (length bytes) w → journaled image w ≡ journaled before w
-  same_seen before image is w beside =
-      journaled-same before image w (λ i journal. is.words i (journal_beside v d ino first (length bytes) whole stands below i journal)) (is.words w beside)
-
-  over : (before image : Words) → IsImage d before → IsOverwritten (extents v ino) first bytes before image → IsWrittenOver v v ino first bytes before image
+  over : (before image : Words) → IsImage d before → IsOverwritten (extents t.volume ino) first bytes before image
+      → IsWrittenOver ready.committed t.volume ino first bytes before image
   over before image from is = record {
-    reads = reads-same v.geometry (journaled before) (journaled image) v
-        (record {
-          lines = λ w line. same_seen before image is w (line_beside v d ino first (length bytes) whole stands below w line);
-          chains = λ n k j short within word.
-              same_seen before image is (512 * block_at (chain v n) k + j) (chain_beside v d ino first (length bytes) whole stands below n k j short within word);
-        })
-        (stands.reads before from);
-    sound = record { count = subst (λ n. n ≤ 128) (sym none) (omega arith); targets = λ r short. absurd (omega (arith, short, none)) };
+    reads = subst (λ h. Reads h (journaled image) ready.committed) (sym (device-same t group b d batched ready))
+        (reads-others t.volume.geometry ready.committed ready.opened.news (IsBesideBlocks (extents t.volume ino) first (length bytes)) rests-over d
+        ready.opened.are.stands before image from is.words);
+    sound = idle-sound ready.committed.geometry image (idle-over before image from is);
     bytes_are = is;
-  } where
-    none : image commit_word ≡ 0
-    none =
-        is.words commit_word (journal_beside v d ino first (length bytes) whole stands below commit_word refl)
-        ∙ subst (λ c. IsCandidate c (before commit_word)) stands.idle (from commit_word)
-
-  pub overwrites : length e ≡ length d → SameLent d e → Follows (IsOverwritten (extents v ino) first bytes) d e
-      → ((i : ℕ) → IsBesideBlocks (extents v ino) first (length bytes) i → Settles (cell d i) (cell e i)) → Overwrites v v ino first bytes d e
-  overwrites size lent follows others = record {
-    size = size;
-    lent = lent;
-    each_image = λ image is. let f = follows image is in (f.0, f.1, over f.0 image f.1.is_image f.2);
-    others = others;
   }
 
-  pub still_stands : Overwrites v v ino first bytes d e → KeepsSingle d e → Stands v.geometry v e
-  still_stands changes singles = record {
-    size = changes.size ∙ stands.size;
-    idle =
-        settled-single (cell d commit_word) (cell e commit_word)
-        (changes.others commit_word (journal_beside v d ino first (length bytes) whole stands below commit_word refl)) (ap is_single stands.idle)
-        ∙ ap (λ c. Single (newest c)) stands.idle;
-    single = λ i low. singles i (stands.single i low);
-    chains = λ n k i within at. singles i (stands.chains n k i within at);
-    reads = λ image is. (changes.each_image image is).2.reads;
-  }
+  module _ (e : List Cell) (size : length e ≡ length d) (lent : SameLent d e) (follows : Follows (IsOverwritten (extents t.volume ino) first bytes) d e)
+      (others : (i : ℕ) → IsBesideBlocks (extents t.volume ino) first (length bytes) i → Settles (cell d i) (cell e i)) where
+    pub overwrites : Overwrites (view_of t group d batched false).committed t.volume ino first bytes d e
+    overwrites = subst (λ u. Overwrites u t.volume ino first bytes d e) (sym (committed-is t group b d batched ready)) (record {
+      size = size;
+      lent = lent;
+      each_image = λ image is. let f = follows image is in (f.0, f.1, over f.0 image f.1.is_image f.2);
+      others = others;
+    })
 
--- K-Split is ready again
-pub ready-over : (t : TablesView) (d e : List Cell) (batched lost now : Bool) (b : List Record) (ino first : ℕ) (bytes : List ℕ) → IsReady (view_of t d batched lost) b t.aside
-    → ino < length t.volume.inodes → Overwrites t.volume t.volume ino first bytes d e → KeepsSingle d e → IsReady (view_of t e batched now) b t.aside
-ready-over t d e batched lost now b ino first bytes ready below over singles = record {
-  order = record {
-    stands = still_stands t.volume d e ino first bytes ready.order.whole ready.order.stands below over singles;
-    whole = ready.order.whole;
-    settled = ready.order.settled;
-    none_waits = ready.order.none_waits;
-    unstaged = λ i in_data free. singles i (ready.order.unstaged i in_data free);
-  };
-  unbatched = ready.unbatched;
-  no_lines = ready.no_lines;
-  none_aside = ready.none_aside;
-}
+    changes-over : KeepsSingle d e → ChangesOthers (IsBesideBlocks (extents t.volume ino) first (length bytes)) d e
+    changes-over singles = record {
+      size = size;
+      idle = λ is.
+          settled-single (cell d commit_word) (cell e commit_word) (others commit_word (rests-over.low commit_word (omega arith))) (ap is_single is)
+          ∙ ap (λ c. Single (newest c)) is;
+      singles = λ i stays. singles i;
+      comes = λ image is. let f = follows image is in (f.0, f.1.is_image, f.2.words);
+    }
+
+    -- K-Split is ready again
+    pub ready-over : KeepsSingle d e → IsReady t group b e batched
+    ready-over singles =
+        ready-others t group b d e batched ready (IsBesideBlocks (extents t.volume ino) first (length bytes)) rests-over (changes-over singles)
+        (λ i in_data free. singles i (ready.unstaged i in_data free))
+
+    -- the volume of the device is the one that it was
+    view-over : (lost now : Bool) → view_of t group e batched now ≡ record (view_of t group d batched lost) { cells = e; lost = now }
+    view-over lost now =
+        let f = follows (words_of e) (IsImage-words_of e) in
+        view-reads t group b d e batched ready lost now
+        (reads-others t.volume.geometry ready.committed ready.opened.news (IsBesideBlocks (extents t.volume ino) first (length bytes)) rests-over d
+        ready.opened.are.stands f.0 (words_of e) f.1.is_image f.2.words)
+
+    pub steady-over : IsSteady t.volume.geometry e
+    steady-over =
+        let f = follows (words_of e) (IsImage-words_of e) in
+        steady-reads t group b d batched ready e lent
+        (reads-others t.volume.geometry ready.committed ready.opened.news (IsBesideBlocks (extents t.volume ino) first (length bytes)) rests-over d
+        ready.opened.are.stands f.0 (words_of e) f.1.is_image f.2.words)
+
+    -- the answers
+    pub overwrite-done : (k : View) (lost : Bool) → lost ≡ false → view_of t group d batched lost ≡ k
+        → Follows (IsOverwrittenWhole (extents t.volume ino) first bytes) d e → KeepsSingle d e
+        → IsOverwriteDone ino first bytes k (view_of t group e batched lost)
+    overwrite-done k lost is same whole singles =
+        subst (λ x. IsOverwriteDone ino first bytes x (view_of t group e batched lost)) same
+        (record {
+          kept_on = is;
+          same = view-over lost lost;
+          order = in-order t group b e batched (ready-over singles) lost;
+          over = overwrites;
+          whole = whole;
+          singles = singles;
+        })
+
+    pub overwrite-cut : (k : View) (lost : Bool) → view_of t group d batched lost ≡ k
+        → IsOverwriteCut ino first bytes k (view_of t group e batched true)
+    overwrite-cut k lost same =
+        subst (λ x. IsOverwriteCut ino first bytes x (view_of t group e batched true)) same
+        (record { same = view-over lost true; over = overwrites })
 
 -- what is asked of the state before, said of its tables
-pub asked : (t : TablesView) (d : List Cell) (batched lost : Bool) (k : View) (ino first count : ℕ) → view_of t d batched lost ≡ k
+pub asked : (t : TablesView) (group : List Record) (d : List Cell) (batched lost : Bool) (k : View) (ino first count : ℕ) → view_of t group d batched lost ≡ k
     → (k.lost ≡ false → MayWriteBytes k.volume ino first count) → lost ≡ false → MayWriteBytes t.volume ino first count
-asked t d batched lost k ino first count same may = subst (λ (x : View). x.lost ≡ false → MayWriteBytes x.volume ino first count) (sym same) may
-
--- the answers
-pub overwrite-done : (t : TablesView) (d e : List Cell) (batched lost : Bool) (b : List Record) (k : View) (ino first : ℕ) (bytes : List ℕ) → lost ≡ false → view_of t d batched lost ≡ k
-    → IsReady (view_of t d batched lost) b t.aside → ino < length t.volume.inodes → Overwrites t.volume t.volume ino first bytes d e
-    → Follows (IsOverwrittenWhole (extents t.volume ino) first bytes) d e → KeepsSingle d e → IsOverwriteDone ino first bytes k (view_of t e batched lost)
-overwrite-done t d e batched lost b k ino first bytes is same ready below over whole singles =
-    subst (λ x. IsOverwriteDone ino first bytes x (view_of t e batched lost)) same
-    (record { kept_on = is; same = refl; order = (ready-over t d e batched lost lost b ino first bytes ready below over singles).order; over = over; whole = whole; singles = singles })
-
-pub overwrite-cut : (t : TablesView) (d e : List Cell) (batched lost : Bool) (k : View) (ino first : ℕ) (bytes : List ℕ) → view_of t d batched lost ≡ k
-    → Overwrites t.volume t.volume ino first bytes d e → IsOverwriteCut ino first bytes k (view_of t e batched true)
-overwrite-cut t d e batched lost k ino first bytes same over =
-    subst (λ x. IsOverwriteCut ino first bytes x (view_of t e batched true)) same (record { same = refl; over = over })
+asked t group d batched lost k ino first count same may = subst (λ (x : View). x.lost ≡ false → MayWriteBytes x.volume ino first count) (sym same) may
 
 -- A range whose blocks are there lies below the longest length.
 pub short_range : (es : List Extent) (first count : ℕ) → IsCanonical es → 0 < count → ((p : ℕ) → first ≤ p → p < first + count → IsSome (disk_at es (p / 4096))) → first + count ≤ 16777216
@@ -197,15 +205,16 @@ short_range es first count canonical some mapped = elim (cases_lt ((first + coun
   by (Some b) none there = cc
 
 -- An empty write leaves all as it was.
-pub overwrite-none : (t : TablesView) (d : List Cell) (batched lost : Bool) (b : List Record) (k : View) (ino first : ℕ) (bytes : List ℕ) → lost ≡ false → view_of t d batched lost ≡ k
-    → IsReady (view_of t d batched lost) b t.aside → length bytes ≡ 0 → IsOverwriteDone ino first bytes k k
-overwrite-none t d batched lost b k ino first bytes is same ready empty =
+pub overwrite-none : (t : TablesView) (group b : List Record) (d : List Cell) (batched lost : Bool) (k : View) (ino first : ℕ) (bytes : List ℕ) → lost ≡ false
+    → view_of t group d batched lost ≡ k → IsReady t group b d batched → length bytes ≡ 0 → IsOverwriteDone ino first bytes k k
+overwrite-none t group b d batched lost k ino first bytes is same ready empty =
     subst (λ x. IsOverwriteDone ino first bytes x x) same
     (record {
       kept_on = is;
       same = refl;
-      order = ready.order;
-      over = record { size = refl; lent = λ i. refl; each_image = over_none; others = λ i beside. inl refl };
+      order = in-order t group b d batched ready lost;
+      over = subst (λ u. Overwrites u t.volume ino first bytes d d) (sym (committed-is t group b d batched ready))
+          (record { size = refl; lent = λ i. refl; each_image = over_none; others = λ i beside. inl refl });
       whole = λ image from. (
         image,
         record { is_image = from; lent = λ i out. refl },
@@ -217,15 +226,13 @@ overwrite-none t d batched lost b k ino first bytes is same ready empty =
     none : (p c : ℕ) → StandsIn (extents t.volume ino) first (length bytes) p c → ⊥
     none p c stands = (let from = stands.from in let below = stands.below in omega (arith, empty, from, below))
 
-    over_none : Follows (IsWrittenOver t.volume t.volume ino first bytes) d d
+    over_none : Follows (IsWrittenOver ready.committed t.volume ino first bytes) d d
     over_none image from = (
       image,
       record { is_image = from; lent = λ i out. refl },
       record {
-        reads = ready.order.stands.reads image from;
-        sound = record { count = subst (λ n. n ≤ 128) (sym idle) (omega arith); targets = λ r short. absurd (omega (arith, short, idle)) };
+        reads = subst (λ h. Reads h (journaled image) ready.committed) (sym (device-same t group b d batched ready)) (ready.opened.are.stands.reads image from);
+        sound = idle-sound ready.committed.geometry image (idle-image d image ready.opened.are.stands.idle from);
         bytes_are = record { each = λ p c stands. inl refl; others = λ k beside. refl; words = λ i beside. refl };
       },
-    ) where
-      idle : image commit_word ≡ 0
-      idle = subst (λ c. IsCandidate c (image commit_word)) ready.order.stands.idle (from commit_word)
+    )

@@ -6,6 +6,7 @@ use Rattle.layout_model.specs.Names.{Rows}
 use Rattle.block_io.specs.image_model.Volume.{Volume}
 use Rattle.block_io.specs.pm_model.declared.Cell.{Cell}
 use Rattle.layout_model.specs.declared.lines.Inode.{Inode}
+use Rattle.k_map_plans.specs.k_journal.declared.batches.Record.{Record}
 use Rattle.k_map_plans.specs.k_plans.View.{TablesView}
 use Rattle.k_tables.specs.k_split_model.Spaces.{is_directory_in, space_of, volume_space}
 use Rattle.k_tables.specs.k_split_model.View.{View}
@@ -66,8 +67,8 @@ some-row : (s : Space) (p : List (List ℕ)) (ino : ℕ) → node_at_path s p �
 some-row s p ino some = rw some refl
 
 -- tables that are those of a view
-module _ (k : View) (t : TablesView) (d : List Cell) (batched lost : Bool) (inodes : List Inode) (rows : Rows) (path : List (List ℕ))
-    (same : view_of t d batched lost ≡ k) (inodes_are : inodes ≡ t.volume.inodes) (rows_are : rows ≡ t.volume.names) where
+module _ (k : View) (t : TablesView) (group : List Record) (d : List Cell) (batched lost : Bool) (inodes : List Inode) (rows : Rows) (path : List (List ℕ))
+    (same : view_of t group d batched lost ≡ k) (inodes_are : inodes ≡ t.volume.inodes) (rows_are : rows ≡ t.volume.names) where
   space : space_of inodes rows ≡ volume_space k.volume
   space = (λ i. space_of (inodes_are i) (rows_are i)) ∙ ap (λ (x : View). volume_space x.volume) same
 

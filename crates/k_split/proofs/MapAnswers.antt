@@ -17,23 +17,14 @@ use Rattle.block_io.specs.k_split_model.MapChangesChanges.{given_up}
 use Rattle.block_io.specs.k_split_model.Taken.{switched, with_map}
 use Rattle.k_tables.specs.volume_laws.Changes.{chain-set_same, extents-set_other}
 use Rattle.block_io.specs.image_model.Volume.{Volume, chain, extents, inode}
-use Rattle.k_map_plans.specs.k_journal.declared.batches.Record.{Record}
-use Rattle.k_map_plans.specs.k_plans.LandingsPlans.{NewChain}
-use Rattle.k_map_plans.specs.k_plans.WrittenLaws.{block-among}
 use Rattle.k_map_plans.specs.k_plans.PlansPlans.{KeepsStaged}
-use Rattle.k_map_plans.specs.k_plans.Switching.{IsMapPlan}
-use Rattle.k_map_plans.specs.k_plans.View.{TablesView}
 use Rattle.k_map_plans.specs.k_plans.Whole.{IsWhole}
-use Rattle.k_tables.specs.k_split_model.View.{View}
 use Rattle.posix_types.specs.declared.reply.Reply.{Reply}
 use Rattle.posix_tables.specs.Outcomes.{answer}
-use Rattle.k_map_plans.specs.volume_change_laws.Switches.{unused-data}
-use Rattle.k_map_plans.specs.volume_laws.PoolLaws.{unused-uncovered}
-use Rattle.k_map_plans.specs.volume_laws.Uses.{is_unused}
 use Rattle.k_split.specs.declared.faults.KFault.{KFault}
 use Rattle.k_split.specs.Answers.{IsPaid}
-use Rattle.k_split.specs.MapChanges.{IsMapAnswer, IsMapLanded, IsMapLandedDone, IsMapPlanned, IsStagedSingle}
-use Rattle.k_split.specs.Order.{IsReady, IsUnstaged, IsUnstagedSingle, view_of}
+use Rattle.k_split.specs.MapChanges.{IsMapLanded, IsStagedSingle}
+use Rattle.k_split.specs.Order.{IsUnstaged, IsUnstagedSingle}
 
 -- a file is no staging file, so that the maps of those stay where a file's map changes
 pub file-staged : (v w : Volume) (ino : ℕ) (x : Inode) (blocks : List ℕ) (es : List Extent) → IsWhole v → IsLiveFile ino v
@@ -79,71 +70,6 @@ pub given-chain : (v w : Volume) (staging : ℕ) → IsWhole v → IsStagingFile
 given-chain v w staging whole is given =
     ap (λ y. chain y staging) given
     ∙ chain-set_same staging (with_map [] [] (inode v staging)) [] [] v (omega (arith, is.below, whole.maps.chain_count))
-
-module _ (t u : TablesView) (d : List Cell) (batched lost : Bool) (c b : List Record) (news : List NewChain) (is : lost ≡ false)
-    (ready : lost ≡ false → IsReady (view_of t d batched lost) c t.aside) (plan : IsMapPlan news t.volume u.volume b) where
-  -- a block that nothing names is in no staging file
-  pub unused-unstaged : (k : ℕ) → is_unused t.volume k ≡ true → IsUnstaged t.volume k
-  unused-unstaged k unused ino least most =
-      let whole = (ready is).order.whole in
-      unused-uncovered t.volume k ino (omega (arith, most, whole.kept.all.inode_count, whole.kept.geometry.least_inodes)) unused
-
-  pub map-planned : IsMapPlanned news t.volume u.volume b d
-  map-planned = record {
-    stands = (ready is).order.stands;
-    plan = plan;
-    single = λ k below j i within at.
-        let among = block-among news k j below within in
-        let unused : is_unused t.volume (i / 512) ≡ true =
-        subst (λ n. is_unused t.volume n ≡ true) (among.is ∙ sym at) (plan.unused among.place 0 among.within)
-        in
-        (ready is).order.unstaged i (unused-data t.volume (i / 512) unused) (unused-unstaged (i / 512) unused);
-  }
-
-  module _ (waits : u.waiting ≡ t.waiting) (bare : u.aside ≡ []) (keeps : (e : List Cell) → KeepsSingle d e → IsUnstagedSingle u.volume e) (blocks : List ℕ) where
-    map-done : (e : List Cell) (p q : Supply) (now : Bool) (a : List Record) → IsMapLandedDone blocks t.volume u.volume d e p q → a ≡ []
-        → IsReady (view_of u e batched now) a u.aside
-    map-done e p q now a landed none = record {
-      order = record {
-        stands = landed.stands;
-        whole = plan.whole;
-        settled = λ off. refl;
-        none_waits = λ off. waits ∙ (ready is).order.none_waits off;
-        unstaged = keeps e landed.singles;
-      };
-      unbatched = (ready is).unbatched;
-      no_lines = none;
-      none_aside = bare;
-    }
-
-    pub map-ready : (e : List Cell) (p q : Supply) (now : Bool) (a : List Record) (r : Result (Unit {0}) KFault)
-        → IsMapLanded blocks t.volume u.volume d e p q r → OnOk r (a ≡ []) → OnErr r (now ≡ true) → now ≡ false
-        → IsReady (view_of u e batched now) a u.aside
-    map-ready e p q now a (Ok done) landed none goes off = map-done e p q now a landed none
-    map-ready e p q now a (Err fault) landed none goes off = let never : true ≡ false = sym goes ∙ off in absurd (cc)
-
-    pub map-answer : (Makes : View → Volume → List ℕ → Type 0) (k : View) (e : List Cell) (p q : Supply) (now : Bool)
-        (r : Result (Unit {0}) KFault) → OnOk r (now ≡ lost) → OnErr r (now ≡ true) → view_of t d batched lost ≡ k
-        → Makes (view_of t d batched lost) u.volume blocks → IsMapLanded blocks t.volume u.volume d e p q r
-        → IsMapAnswer (Makes k) k (view_of u e batched now) r
-    map-answer Makes k e p q now (Ok done) stays goes same makes landed =
-        subst (λ x. IsMapAnswer (Makes x) x (view_of u e batched now) (Ok done)) same (
-          blocks,
-          makes,
-          record {
-            kept_on = stays ∙ is;
-            batched = refl;
-            order = (map-done e p q now [] landed refl).order;
-            changes = landed.changes;
-            singles = landed.singles;
-          },
-        )
-    map-answer Makes k e p q now (Err KFault.PowerLost) stays goes same makes landed =
-        subst (λ x. IsMapAnswer (Makes x) x (view_of u e batched now) (Err KFault.PowerLost)) same
-        (inr (u.volume, blocks, makes, record { lost = goes; batched = refl; whole = plan.whole; changes = landed.changes }))
-    map-answer Makes k e p q now (Err (KFault.Refused errno)) stays goes same makes landed = absurd landed
-    map-answer Makes k e p q now (Err (KFault.Room room)) stays goes same makes landed = absurd landed
-    map-answer Makes k e p q now (Err KFault.NoMemory) stays goes same makes landed = absurd landed
 
 pub map-paid : (blocks : List ℕ) (v w : Volume) (d e : List Cell) (p q : Supply) (r : Result (Unit {0}) KFault)
     → IsMapLanded blocks v w d e p q r → IsPaid None p q r

@@ -34,7 +34,8 @@ use Rattle.k_tables.specs.k_split_model.Stands.{Stands}
 use Rattle.k_map_plans.specs.k_plans.View.{tables_view, TablesView}
 use Rattle.k_map_plans.specs.k_plans.Whole.{IsWhole}
 use Rattle.k_map_plans.specs.k_plans.WholeLaws.{whole-read}
-use Rattle.k_split.specs.Order.{view_of, IsOpened, IsReady}
+use Rattle.k_split.specs.Order.{IsOpened, IsPlain, IsReady, view_of}
+use Rattle.k_split.proofs.Ready.{in-order, plain-ready}
 
 -- words whose journal is empty read as they do through it
 pub reads-idle : (g : Geometry) (f : Words) (v : Volume) → f commit_word ≡ 0 → Reads g (journaled f) v → Reads g f v
@@ -104,22 +105,17 @@ module _ (g : Geometry) (d : List Cell) (is : IsGeometry g) (open_is : IsOpenabl
     reads = λ image is_image. subst (λ h. Reads g (journaled h) v) (sym (image-single d image open_is.single is_image)) through;
   }
 
-  pub ready : (t : TablesView) → t.volume ≡ volume g (words_of d) → t.waiting ≡ [] → t.aside ≡ [] → IsReady (view_of t d false false) [] t.aside
+  pub plain : (t : TablesView) → t.volume ≡ volume g (words_of d) → t.waiting ≡ [] → t.aside ≡ [] → IsPlain t d
   unfolding f v
-  ready t volume_is none_waits none_aside =
+  plain t volume_is none_waits none_aside =
       let same : t.volume ≡ v = volume_is ∙ same_volume in
       let geometry_is : g ≡ t.volume.geometry = sym (ap (λ (w : Volume). w.geometry) same ∙ through.geometry) in
       record {
-        order = record {
-          stands = subst (λ h. Stands h t.volume d) geometry_is (subst (λ w. Stands g w d) (sym same) stands);
-          whole = subst IsWhole (sym volume_is) whole;
-          settled = λ none. refl;
-          none_waits = λ none. none_waits;
-          unstaged = λ i in_data free. open_is.single i;
-        };
-        unbatched = refl;
-        no_lines = refl;
+        stands = subst (λ h. Stands h t.volume d) geometry_is (subst (λ w. Stands g w d) (sym same) stands);
+        whole = subst IsWhole (sym volume_is) whole;
+        none_waits = none_waits;
         none_aside = none_aside;
+        unstaged = λ i in_data free. open_is.single i;
       }
 
 -- the tables that were read are those of the volume
@@ -139,13 +135,6 @@ tables-read g d base inodes rows chains maps is open_is base_is inodes_are rows_
 pub tables-whole : (g : Geometry) (d : List Cell) (t : TablesView) → IsGeometry g → IsOpenable g d
     → t ≡ record { volume = volume g (words_of d); aside = []; waiting = [] } → IsWhole t.volume
 tables-whole g d t is open_is same = subst (λ (u : TablesView). IsWhole u.volume) (sym same) (whole g d is open_is)
-
-opened : (g : Geometry) (d : List Cell) (t : TablesView) → IsGeometry g → IsOpenable g d
-    → t ≡ record { volume = volume g (words_of d); aside = []; waiting = [] } → IsReady (view_of t d false false) [] t.aside × IsOpened d (volume g (journaled (words_of d))) false (view_of t d false false)
-opened g d t is open_is same =
-    let volume_is : t.volume ≡ volume g (words_of d) = ap (λ (u : TablesView). u.volume) same in
-    let are = ready g d is open_is t volume_is (ap (λ (u : TablesView). u.waiting) same) (ap (λ (u : TablesView). u.aside) same) in
-    (are, record { order = are.order; volume_is = volume_is ∙ same_volume g d is open_is; cells_are = refl; batched_is = refl; on = refl })
 
 -- ---- the fresh image
 
@@ -171,13 +160,19 @@ pub if-tables : (g : Geometry) (d : List Cell) (t : TablesView) (r : Result Tabl
 if-tables g d t (Ok x) is same = is ∙ same
 if-tables g d t (Err e) is same = tt
 
-pub opened-ready : (g : Geometry) (d : List Cell) (t : TablesView) (batched : Bool) (b : List Record) → IsGeometry g → IsOpenable g d
-    → t ≡ record { volume = volume g (words_of d); aside = []; waiting = [] } → batched ≡ false → b ≡ [] → IsReady (view_of t d batched false) b t.aside
-opened-ready g d t batched b is open_is same unbatched none =
-    subst (λ x. IsReady (view_of t d x false) b t.aside) (sym unbatched) (subst (λ (a : List Record). IsReady (view_of t d false false) a t.aside) (sym none) (opened g d t is open_is same).0)
+pub opened-ready : (g : Geometry) (d : List Cell) (t : TablesView) (batched : Bool) (group b : List Record) → IsGeometry g → IsOpenable g d
+    → t ≡ record { volume = volume g (words_of d); aside = []; waiting = [] } → group ≡ [] → b ≡ [] → IsReady t group b d batched
+opened-ready g d t batched group b is open_is same empty none =
+    plain-ready t group b d batched
+    (plain g d is open_is t (ap (λ (u : TablesView). u.volume) same) (ap (λ (u : TablesView). u.waiting) same) (ap (λ (u : TablesView). u.aside) same)) empty none
 
-pub opened-as : (g : Geometry) (d : List Cell) (t : TablesView) (batched : Bool) → IsGeometry g → IsOpenable g d
-    → t ≡ record { volume = volume g (words_of d); aside = []; waiting = [] } → batched ≡ false
-    → IsOpened d (volume g (journaled (words_of d))) batched (view_of t d batched false)
-opened-as g d t batched is open_is same unbatched =
-    subst (λ x. IsOpened d (volume g (journaled (words_of d))) x (view_of t d x false)) (sym unbatched) (opened g d t is open_is same).1
+pub opened-as : (g : Geometry) (d : List Cell) (t : TablesView) (batched : Bool) (group b : List Record) → IsGeometry g → IsOpenable g d
+    → t ≡ record { volume = volume g (words_of d); aside = []; waiting = [] } → group ≡ [] → b ≡ []
+    → IsOpened d (volume g (journaled (words_of d))) batched (view_of t group d batched false)
+opened-as g d t batched group b is open_is same empty none = record {
+  order = in-order t group b d batched (opened-ready g d t batched group b is open_is same empty none) false;
+  volume_is = ap (λ (u : TablesView). u.volume) same ∙ same_volume g d is open_is;
+  cells_are = refl;
+  batched_is = refl;
+  on = refl;
+}

@@ -72,6 +72,14 @@ IsPaid refused old new (Err (KFault.Room room)) = IsSpared old new
 IsPaid refused old new (Err KFault.NoMemory) = IsSpared old new
 IsPaid refused old new (Err KFault.PowerLost) = is_on new ≡ false
 
+-- The power after a change where changes gather, which may take no step: it is off exactly where the change answers PowerLost.
+abbrev pub IsPowered : {T : Type 0} → Supply → Result T KFault → Type 0
+IsPowered new (Ok t) = is_on new ≡ true
+IsPowered new (Err (KFault.Refused errno)) = is_on new ≡ true
+IsPowered new (Err (KFault.Room room)) = is_on new ≡ true
+IsPowered new (Err KFault.NoMemory) = is_on new ≡ true
+IsPowered new (Err KFault.PowerLost) = is_on new ≡ false
+
 -- a commit of all that gathers, which is nothing yet
 abbrev pub IsCommitAnswer : View → View → Commit → Type 0
 IsCommitAnswer old new Commit.Done = (new.volume ≡ old.volume) × IsDone old new

@@ -1,17 +1,23 @@
 -- What the filling of holes of a file answers and leaves.
-use Rattle.std.specs.Prelude.{◌≡◌, ◌≢◌, ◌⊎◌, ℕ, true, All, List, ◌++◌, length, Option, None, Some, Result, Ok, Err}
+use Rattle.std.specs.Prelude.{◌≡◌, ◌≢◌, ◌⊎◌, ◌<◌, ℕ, Bool, true, false, All, List, ◌++◌, length, Option, None, Some, Result, Ok, Err}
 use Rattle.block_io.specs.pm_model.declared.Cell.{Cell}
-use Rattle.block_io.specs.pm_model.Powers.{Supply}
-use Rattle.block_io.specs.image_model.Placed.{AreDistinct, AreSingle}
+use Rattle.block_io.specs.pm_model.Images.{IsImage}
+use Rattle.block_io.specs.pm_model.Powers.{is_on, Supply}
+use Rattle.block_io.specs.pm_model.Words.{Words}
+use Rattle.k_group_commit.specs.Joins.{Fits, Goes, IsBlocksCut}
+use Rattle.block_io.specs.image_model.Placed.{AreDistinct, AreSingle, block_at}
 use Rattle.block_io.specs.image_model.Volume.{Volume, chain, extents}
 use Rattle.k_map_plans.specs.k_journal.declared.batches.Record.{Record}
+use Rattle.k_map_plans.specs.k_journal.declared.outcomes.Commit.{Commit}
+use Rattle.k_map_plans.specs.k_plans.Free.{is_free_block}
 use Rattle.k_map_plans.specs.k_plans.Maps.{AreApart}
 use Rattle.k_map_plans.specs.k_plans.LandingsPlans.{NewChain, blocks_of}
+use Rattle.k_map_plans.specs.k_plans.View.{TablesView}
 use Rattle.k_map_plans.specs.Plans.{holes_row}
 use Rattle.block_io.specs.layout_model.Places.{reserve}
 use Rattle.k_tables.specs.k_split_model.View.{View}
 use Rattle.block_io.specs.k_split_model.MapChangesChanges.{holes, IsFilled}
-use Rattle.block_io.specs.k_split_model.Zeros.{ReadZeros}
+use Rattle.block_io.specs.k_split_model.Zeros.{AreZeros, ReadZeros}
 use Rattle.posix_types.specs.declared.item.Outcome.{Outcome}
 use Rattle.posix_types.specs.declared.reply.Errno.{Errno}
 use Rattle.posix_types.specs.declared.reply.Reply.{Reply}
@@ -20,6 +26,7 @@ use Rattle.k_map_plans.specs.volume_laws.Uses.{is_unused}
 use Rattle.k_split.specs.declared.faults.KFault.{KFault}
 use Rattle.k_split.specs.Answers.{IsOff}
 use Rattle.k_split.specs.MapChanges.{free_blocks_in, is_free_in, IsMapAnswer, IsMapCut, IsMapLanded, IsMapPlanned}
+use Rattle.k_split.specs.MapLanded.{IsJoinedWith, IsMapPlanOn}
 
 -- how many holes the range of the file has
 abbrev pub hole_count : ℕ → ℕ → ℕ → View → ℕ
@@ -36,6 +43,13 @@ pub record IsFilledWith (ino from count : ℕ) (old : View) (d : List Cell) (w :
   pub filled : IsFilled (is_free_in old) ino from count old.volume w fresh
   pub written : blocks ≡ fresh ++ chain w ino
   pub zeros : ReadZeros old.volume.geometry w fresh d
+
+-- So they do where changes gather, and the blocks read zeros in each image of d, whichever volume it reads as.
+pub record IsFilledInBatch (ino from count : ℕ) (old : View) (d : List Cell) (w : Volume) (blocks : List ℕ) : Type 0 where
+  pub fresh : List ℕ
+  pub filled : IsFilled (is_free_in old) ino from count old.volume w fresh
+  pub written : blocks ≡ fresh ++ chain w ino
+  pub zeros : (image : Words) → IsImage d image → AreZeros fresh image
 
 -- there is no hole, and nothing is done
 pub record IsFull (row : Option Outcome) (old new : View) : Type 0 where
@@ -72,3 +86,30 @@ pub record IsFillLanded (fresh : List ℕ) (news : List NewChain) (v w : Volume)
     (result : Result (Unit {0}) KFault) : Type 0 where
   pub landed : IsMapLanded (fresh ++ blocks_of news) v w old new before after result
   pub zeros : ReadZeros v.geometry w fresh new
+
+-- A change with these new maps was planned, from the tables t to the tables p, that takes the free blocks of the list. None is one of the
+-- new chains'; and a volume in which the first is unused is not the new one.
+pub record IsFillPlanOn (fresh : List ℕ) (t p : TablesView) (maps : List NewChain) (group b : List Record) (d : List Cell) (batched : Bool) : Type 0 where
+  pub planned : IsMapPlanOn t p maps group b d batched
+  pub free : All (λ k. is_free_block t k ≡ true) fresh
+  pub distinct : AreDistinct fresh
+  pub apart : AreApart fresh (blocks_of maps)
+  pub taken : (x : Volume) → ((k : ℕ) → k < length fresh → is_unused x (block_at fresh k) ≡ true) → p.volume ≢ x
+
+-- The power went while blocks were zeroed, or in a commit of the group after it.
+abbrev pub IsZeroedCut : List ℕ → Volume → TablesView → List Record → List Record → List Cell → List Cell → Type 0
+IsZeroedCut fresh u t a b d e = Goes fresh u u d e ⊎ ((Fits a b → ⊥) × Goes fresh u t.volume d e)
+
+-- Where changes gather it joined the group; or the power went so, or while maps were written. Once they are zeroed, the blocks read
+-- zeros in each image.
+abbrev pub IsFillJoin : List ℕ → List NewChain → Volume → TablesView → TablesView → TablesView → List Record → List Record → List Record
+    → List Cell → List Cell → Supply → Result (Unit {0}) KFault → Type 0
+IsFillJoin fresh maps u t p h a b c d e after (Ok done) =
+    IsJoinedWith (fresh ++ blocks_of maps) u t p h a b c d e Commit.Done × ((image : Words) → IsImage e image → AreZeros fresh image) × (is_on after ≡ true)
+IsFillJoin fresh maps u t p h a b c d e after (Err KFault.PowerLost) =
+    (IsZeroedCut fresh u t a b d e
+    ⊎ (IsBlocksCut (fresh ++ blocks_of maps) u t a b d e × ((image : Words) → IsImage e image → AreZeros fresh image)))
+    × (is_on after ≡ false)
+IsFillJoin fresh maps u t p h a b c d e after (Err (KFault.Refused errno)) = ⊥
+IsFillJoin fresh maps u t p h a b c d e after (Err (KFault.Room room)) = ⊥
+IsFillJoin fresh maps u t p h a b c d e after (Err KFault.NoMemory) = ⊥

@@ -3,18 +3,21 @@ pub mod Bytes
 pub mod Contents
 pub mod Faults
 pub mod Filling
+pub mod Gathers
 pub mod Landed
 pub mod Laps
 pub mod Loans
 pub mod LogLines
 pub mod Looks
 pub mod MapChanges
+pub mod MapLanded
 pub mod SizeLaws
 pub mod Names
 pub mod Order
 pub mod Resets
 pub use Rattle.k_tables.specs as k_tables
 pub use Rattle.k_tables.specs.name_laws as name_laws
+pub use Rattle.k_group_commit.specs as k_group_commit
 pub use Rattle.k_map_plans.specs as k_map_plans
 pub use Rattle.k_map_plans.specs.image_laws as image_laws
 pub use Rattle.k_map_plans.specs.k_plans as k_plans

@@ -18,8 +18,9 @@ use thiserror::Error;
 ///   lines are used up, and of `fill_holes` exactly where there is a hole and fewer blocks are free
 ///   than the holes and the reserve less 2: nothing is changed, and no step is taken. No other
 ///   change answers it.
-/// - `NoMemory` only where no row fits: nothing is changed, and no step is taken. `write_in_place`,
-///   `clean_tail` and `write_staged` take no memory and never answer it.
+/// - `NoMemory` only where no row fits: nothing is changed, and no step is taken, but that the open batch
+///   was committed where blocks that wait were wanted. `write_in_place`, `clean_tail` and `write_staged`
+///   take no memory and never answer it.
 /// - `PowerLost` exactly where the power is off at the return: nothing is changed if it was off at
 ///   the call; else the change was cut off, and each image has the old volume or the new one, and of
 ///   bytes that are written in place each is the old one or the new one. The `KSplit` is lost.
@@ -27,9 +28,10 @@ use thiserror::Error;
 /// # Steps
 ///
 /// A change of names takes at most 256 steps of its power, one of maps at most 2^15, with 1,024 a
-/// hole more where holes are filled, and each at least one where it has something to do and is done;
-/// bytes in place take at most 576 a block that they reach, and one more. A step is a store, a flush
-/// or a fence of the device. A `KSplit` that is lost is handed no power that is on.
+/// hole more where holes are filled, and each at least one where it has something to do and is done.
+/// Where changes gather one of names takes none but those of a commit, which takes at most 4,112, and
+/// one of maps at most 4,112 more. Bytes in place take at most 576 a block that they reach, and one more.
+/// A step is a store, a flush or a fence of the device. A `KSplit` that is lost is handed no power that is on.
 #[derive(Clone, Copy, Debug, PartialEq, Eq, Error)]
 pub enum KFault {
     /// The call answers this error.

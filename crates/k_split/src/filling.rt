@@ -1,13 +1,15 @@
 //! Holes of a file get blocks that read zeros.
 ghost use Rattle.std.specs.Prelude.{◌≡◌, ◌≤◌, ◌+◌, ◌*◌, ◌^◌, ◌∷◌, [], length, true, false, OnOk, OnErr};
-ghost use Rattle.block_io.specs.image_model.Volume.{Volume};
 ghost use Rattle.k_map_plans.specs.Plans.{IsLiveFile};
 ghost use Rattle.block_io.specs.pm_model.Powers.{is_on, Steps};
 ghost use Rattle.k_split.specs.Answers.{IsPaid};
-ghost use Rattle.k_split.specs.Filling.{fill_row, hole_count, IsFillAnswer, IsFillLanded, IsFillPlanned};
+ghost use Rattle.k_map_plans.specs.k_plans.View.{TablesView};
+ghost use Rattle.k_split.specs.Filling.{fill_row, hole_count, IsFillAnswer, IsFillJoin, IsFillLanded, IsFillPlanOn};
+ghost use Rattle.k_split.specs.Gathers.{IsGatherFill};
+ghost use Rattle.k_split.specs.Order.{IsReady, IsSteady};
 
 use crate::faults::KFault;
-use crate::mapping::land_maps_plan;
+use crate::mapping::land_maps_change;
 use crate::state::KSplit;
 use block_io::zero_blocks;
 use k_map_plans::{Batch, MapFault, NewMap, Tables, may_fill, plan_fill};
@@ -15,33 +17,60 @@ use pm_lines::{Pm, Power};
 use std::alloc::Global;
 use std::slice;
 
-// Zeroes the blocks; then, with the power left, writes the new map and lands what is planned on the
-// tables. It notes in `lost` that the power went.
+// Zeroes the blocks; then, with the power left, lands the change with its new map, or lets it join.
+// It notes in `lost` that the power went.
 fn land_filled(
+    batched: bool,
     fresh: &[u32],
     map: &NewMap,
+    group: &mut Batch,
     batch: &mut Batch,
     pm: &mut Pm,
-    tables: &Tables,
+    tables: &mut Tables,
     lost: &mut bool,
     power: &mut Power,
 ) -> Result<(), KFault>
-    requires { (v : Volume) × IsFillPlanned fresh.now (map.now ∷ []) v tables.now.volume batch.old pm.old }
-    ensures steps { Steps (2 ^ 15 + (576 * length fresh.now + 1)) power.old power.new }
-    ensures landed { (v : Volume)
-        → IsFillPlanned fresh.now (map.now ∷ []) v tables.now.volume batch.old pm.old
-        → IsFillLanded fresh.now (map.now ∷ []) v tables.now.volume pm.old pm.new
-        power.old power.new result }
-    ensures no_lines { OnOk result (batch.new ≡ []) }
+    requires on { is_on power.old ≡ true }
+    requires plan { (t : TablesView) × IsFillPlanOn fresh.now t tables.old (map.now ∷ [])
+        group.old batch.old pm.old batched }
+    ensures steps { Steps (2 ^ 15 + 32 * length group.old + (576 * length fresh.now + 1))
+        power.old power.new }
+    ensures few { batched ≡ false
+        → Steps (2 ^ 15 + (576 * length fresh.now + 1)) power.old power.new }
+    ensures landed { (t : TablesView)
+        → IsFillPlanOn fresh.now t tables.old (map.now ∷ []) group.old batch.old pm.old batched
+        → batched ≡ false → IsFillLanded fresh.now (map.now ∷ []) t.volume tables.old.volume
+        pm.old pm.new power.old power.new result }
+    ensures joined { (t : TablesView)
+        → (plan : IsFillPlanOn fresh.now t tables.old (map.now ∷ [])
+        group.old batch.old pm.old batched)
+        → batched ≡ true → IsFillJoin fresh.now (map.now ∷ []) plan.planned.ready.committed
+        t tables.old tables.new group.old batch.old group.new pm.old pm.new power.new result }
+    ensures ready { (t : TablesView)
+        → IsFillPlanOn fresh.now t tables.old (map.now ∷ []) group.old batch.old pm.old batched
+        → OnOk result (IsReady tables.new group.new batch.new pm.new batched) }
+    ensures steady { batched ≡ true → IsSteady tables.new.volume.geometry pm.new }
+    ensures volume { tables.new.volume ≡ tables.old.volume }
+    ensures none_aside { tables.new.aside ≡ [] }
     ensures same { OnOk result (lost.new ≡ lost.old) }
     ensures noted { OnErr result (lost.new ≡ true) }
 {
     zero_blocks(pm, power, fresh);
     if !power.on() {
+        tables.release();
         *lost = true;
         return Err(KFault::PowerLost);
     }
-    land_maps_plan(slice::from_ref(map), batch, pm, tables, lost, power)
+    land_maps_change(
+        batched,
+        slice::from_ref(map),
+        group,
+        batch,
+        pm,
+        tables,
+        lost,
+        power,
+    )
 }
 
 impl KSplit {
@@ -70,11 +99,16 @@ impl KSplit {
         requires awake { self.old.lost ≡ true → is_on power.old ≡ false }
         requires file { self.old.lost ≡ false → IsLiveFile ino self.old.volume }
         requires range { first + count ≤ 4096 }
-        ensures steps { Steps (2 ^ 15 + 1024 * hole_count ino first count self.old)
+        ensures steps { self.old.batched ≡ false
+            → Steps (2 ^ 15 + 1024 * hole_count ino first count self.old) power.old power.new }
+        ensures most { Steps (2 ^ 15 + 4112 + 1024 * hole_count ino first count self.old)
             power.old power.new }
-        ensures paid { IsPaid (fill_row ino first count self.old) power.old power.new result }
+        ensures paid { self.old.batched ≡ false
+            → IsPaid (fill_row ino first count self.old) power.old power.new result }
         ensures answer { self.old.batched ≡ false
             → IsFillAnswer ino first count self.old self.new result }
+        ensures gathers { self.old.batched ≡ true
+            → IsGatherFill ino first count self.old self.new result }
     {
         if !power.on() {
             self.lost = true;
@@ -97,13 +131,14 @@ impl KSplit {
             Err(MapFault::NoMemory) => return Err(KFault::NoMemory),
             Err(MapFault::Few) => unreachable!(),
         };
-        self.tables.release();
         land_filled(
+            self.batched,
             &fresh,
             &map,
+            &mut self.group,
             &mut self.batch,
             &mut self.pm,
-            &self.tables,
+            &mut self.tables,
             &mut self.lost,
             power,
         )

@@ -1,5 +1,5 @@
 //! A new lap of the log, and a log that begins anew.
-ghost use Rattle.std.specs.Prelude.{◌≡◌, ◌≢◌, ◌+◌, ◌*◌, ◌^◌, ◌≤◌, true, false, None, Err};
+ghost use Rattle.std.specs.Prelude.{◌≡◌, ◌≢◌, ◌+◌, ◌*◌, ◌^◌, ◌≤◌, [], true, false, None, Err};
 ghost use Rattle.block_io.specs.pm_model.Powers.{is_on, Steps};
 ghost use Rattle.k_split.specs.Answers.{IsCommitPaid, IsPaid};
 ghost use Rattle.k_split.specs.Laps.{ClearsLog, HasNextLap, HasSingleLog, IsBaseAnswer, IsBaseChange, IsRestartAnswer, LosesLog, next_base};
@@ -12,9 +12,10 @@ use k_map_plans::Commit;
 use pm_lines::Power;
 
 impl KSplit {
-    // Sets the log base.
+    // Sets the log base. Nothing has gathered, and it is landed at once.
     fn set_base(&mut self, base: u64, power: &mut Power) -> Result<(), KFault>
         requires awake { self.old.lost ≡ true → is_on power.old ≡ false }
+        requires empty { self.old.lost ≡ false → self.old.lines ≡ [] }
         requires least { 1 ≤ base }
         requires most { base ≤ 2 ^ 63 }
         ensures steps { Steps 256 power.old power.new }
@@ -39,10 +40,11 @@ impl KSplit {
     /// Begins a new lap of the log, as one transaction: its base rises by the number of log lines, so
     /// that entries of the lap before are valid no more. It takes no memory, and at most 256 steps.
     ///
-    /// The log base is at most 2^63 less the number of log lines. `PowerLost` comes exactly where the
+    /// The log base is at most 2^63 less the number of log lines, and nothing has gathered. `PowerLost` comes exactly where the
     /// power is off at the return: then each image has the old base or the new one.
     pub fn new_lap(&mut self, power: &mut Power) -> Commit
         requires awake { self.old.lost ≡ true → is_on power.old ≡ false }
+        requires empty { self.old.lost ≡ false → self.old.lines ≡ [] }
         requires next { self.old.lost ≡ false → HasNextLap self.old }
         ensures steps { Steps 256 power.old power.new }
         ensures paid { IsCommitPaid power.new result }
@@ -83,11 +85,12 @@ impl KSplit {
     /// Begins the log anew: its lines become zero and durable, then its base becomes 1, as one
     /// transaction. It takes no memory, and at most 9 steps a line and 257.
     ///
-    /// No line of the log is lent, and each of their words has one candidate. `PowerLost` comes exactly
+    /// No line of the log is lent, each of their words has one candidate, and nothing has gathered. `PowerLost` comes exactly
     /// where the power is off at the return: then each image has the log's lines as before, or some of
     /// their words, and the old base; or lines of zeros, and either base.
     pub fn restart_log(&mut self, power: &mut Power) -> Commit
         requires awake { self.old.lost ≡ true → is_on power.old ≡ false }
+        requires empty { self.old.lost ≡ false → self.old.lines ≡ [] }
         requires single { self.old.lost ≡ false → HasSingleLog self.old }
         ensures steps { Steps (9 * self.old.volume.geometry.log + 257) power.old power.new }
         ensures paid { IsCommitPaid power.new result }

@@ -14,10 +14,13 @@
 //! Handed no power, a change answers PowerLost at once, and K-Split is lost. `directory_of` is apart, so
 //! that ENOENT comes before EMFILE and EMFILE before ENOSPC. `fill_holes` does nothing without holes, not
 //! even a move of the chain. `restart_log` zeroes the lines durably, then sets the base by one transaction.
-//! `answer` of a change speaks of a K-Split whose changes do not gather in a batch; by now none is opened whose
-//! changes do (`batched`). Blocks that a change frees are free to take before it is landed: no other is planned till then.
 //!
-//! Stands on `k_plans` (changes of names), `k_map_plans` (of maps, and of what is applied), `block_io`, `k_reading`
+//! Where changes gather (`batched`) each joins an open batch: the device stands at the volume that was committed last
+//! until `commit`. A commit comes within a change exactly where its lines do not fit beside those of the batch, or where a cut
+//! or a move wants blocks that wait (`IsGatherAnswer`); a block that came free in the batch is used by nothing before. Bytes in
+//! place, loans and the log leave the batch as it is.
+//!
+//! Stands on `k_group_commit` (changes that gather), `k_plans` (changes of names), `k_map_plans` (of maps, and of what is applied), `block_io`, `k_reading`
 //! and `k_tables`.
 #![tactic(auto)]
 

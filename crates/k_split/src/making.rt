@@ -2,10 +2,11 @@
 ghost use Rattle.std.specs.Prelude.{◌≡◌, true, false};
 ghost use Rattle.block_io.specs.pm_model.Powers.{is_on, Steps};
 ghost use Rattle.k_map_plans.specs.layout_model.Spelling.{AreSpelled};
-ghost use Rattle.k_split.specs.Answers.{IsPaid};
+ghost use Rattle.k_split.specs.Answers.{IsPaid, IsPowered};
+ghost use Rattle.k_split.specs.Gathers.{IsGatherMake};
 ghost use Rattle.k_split.specs.Names.{make_row, IsMakeAnswer};
 
-use crate::changes::land_plan;
+use crate::changes::land_change;
 use crate::faults::{KFault, fault_of};
 use crate::state::KSplit;
 use pm_lines::Power;
@@ -34,10 +35,15 @@ impl KSplit {
     ) -> Result<u32, KFault>
         requires spelled { AreSpelled path.now }
         requires awake { self.old.lost ≡ true → is_on power.old ≡ false }
-        ensures steps { Steps 256 power.old power.new }
-        ensures paid { IsPaid (make_row path.now self.old) power.old power.new result }
+        ensures steps { self.old.batched ≡ false → Steps 256 power.old power.new }
+        ensures most { Steps 4112 power.old power.new }
+        ensures paid { self.old.batched ≡ false
+            → IsPaid (make_row path.now self.old) power.old power.new result }
+        ensures powered { self.old.batched ≡ true → IsPowered power.new result }
         ensures answer { self.old.batched ≡ false
             → IsMakeAnswer directory path.now self.old self.new result }
+        ensures gathers { self.old.batched ≡ true
+            → IsGatherMake directory path.now self.old self.new result }
     {
         if !power.on() {
             self.lost = true;
@@ -46,11 +52,12 @@ impl KSplit {
         match self.tables.make(alloc, &mut self.batch, path, directory) {
             Err(fault) => Err(fault_of(fault)),
             Ok(ino) => {
-                self.tables.release();
-                match land_plan(
+                match land_change(
+                    self.batched,
+                    &mut self.group,
                     &mut self.batch,
                     &mut self.pm,
-                    &self.tables,
+                    &mut self.tables,
                     &mut self.lost,
                     power,
                 ) {

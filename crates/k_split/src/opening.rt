@@ -1,5 +1,5 @@
 //! A fresh image, and the K-Split of a device.
-ghost use Rattle.std.specs.Prelude.{◌≡◌, ◌*◌, [], false, length, IfOk};
+ghost use Rattle.std.specs.Prelude.{◌≡◌, ◌*◌, [], true, false, length, IfOk};
 ghost use Rattle.block_io.specs.layout_model.Places.{commit_word, IsGeometry};
 ghost use Rattle.block_io.specs.layout_model.Journal.{journaled};
 ghost use Rattle.layout_model.specs.Fresh.{fresh};
@@ -52,7 +52,7 @@ fn read_tables(alloc: Global, pm: &Pm, geometry: Geometry) -> Result<Tables, All
 }
 
 impl KSplit {
-    /// The K-Split of a device. `batched` must be false: changes do not gather yet.
+    /// The K-Split of a device. Where `batched` is true, changes gather in a batch until a commit.
     ///
     /// The device is a checked image of this geometry: nothing is lent, every word has one
     /// candidate, and the journal is empty. Out of memory is the only error.
@@ -67,18 +67,28 @@ impl KSplit {
         requires idle { cell pm commit_word ≡ Cell.Single 0 }
         requires numbers { geometry_of (words_of pm) ≡ geometry }
         requires checked { IsChecked (4096 * geometry.blocks) (words_of pm) }
-        requires unbatched { batched ≡ false }
         ensures { IfOk result (IsOpened pm (volume geometry (journaled (words_of pm))) batched) }
     {
         prove!(geometry.blocks >= 64);
         let batch = Batch::new(alloc)?;
+        let group = Batch::new(alloc)?;
         let tables = read_tables(alloc, &pm, geometry)?;
         Ok(KSplit {
             pm,
             tables,
             batch,
+            group,
             batched,
             lost: false,
         })
+    }
+
+    /// From now on changes gather in a batch until a commit. It takes no memory.
+    pub fn gather_changes(&mut self)
+        requires on { self.old.lost ≡ false }
+        requires unbatched { self.old.batched ≡ false }
+        ensures { self.new ≡ record self.old { batched = true } }
+    {
+        self.batched = true;
     }
 }

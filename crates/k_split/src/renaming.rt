@@ -3,9 +3,10 @@ ghost use Rattle.std.specs.Prelude.{◌≡◌, true, false};
 ghost use Rattle.block_io.specs.pm_model.Powers.{is_on, Steps};
 ghost use Rattle.k_map_plans.specs.layout_model.Spelling.{AreSpelled};
 ghost use Rattle.k_split.specs.Answers.{IsPaid};
+ghost use Rattle.k_split.specs.Gathers.{IsGatherRename};
 ghost use Rattle.k_split.specs.Names.{rename_row, IsRenameAnswer};
 
-use crate::changes::land_plan;
+use crate::changes::land_change;
 use crate::faults::{KFault, fault_of};
 use crate::state::KSplit;
 use pm_lines::Power;
@@ -34,10 +35,14 @@ impl KSplit {
     ) -> Result<Option<u32>, KFault>
         requires spelled { AreSpelled to.now }
         requires awake { self.old.lost ≡ true → is_on power.old ≡ false }
-        ensures steps { Steps 256 power.old power.new }
-        ensures paid { IsPaid (rename_row path.now to.now self.old) power.old power.new result }
+        ensures steps { self.old.batched ≡ false → Steps 256 power.old power.new }
+        ensures most { Steps 4112 power.old power.new }
+        ensures paid { self.old.batched ≡ false
+            → IsPaid (rename_row path.now to.now self.old) power.old power.new result }
         ensures answer { self.old.batched ≡ false
             → IsRenameAnswer path.now to.now self.old self.new result }
+        ensures gathers { self.old.batched ≡ true
+            → IsGatherRename path.now to.now self.old self.new result }
     {
         if !power.on() {
             self.lost = true;
@@ -49,11 +54,12 @@ impl KSplit {
                 if self.batch.is_empty() {
                     return Ok(lost);
                 }
-                self.tables.release();
-                match land_plan(
+                match land_change(
+                    self.batched,
+                    &mut self.group,
                     &mut self.batch,
                     &mut self.pm,
-                    &self.tables,
+                    &mut self.tables,
                     &mut self.lost,
                     power,
                 ) {

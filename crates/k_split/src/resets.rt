@@ -1,12 +1,13 @@
 //! The entries that a file has applied count anew.
-ghost use Rattle.std.specs.Prelude.{◌≡◌, true, false, None};
+ghost use Rattle.std.specs.Prelude.{◌≡◌, [], true, false, None};
 ghost use Rattle.block_io.specs.pm_model.Images.{Follows};
 ghost use Rattle.block_io.specs.pm_model.Powers.{is_on, Steps};
 ghost use Rattle.k_map_plans.specs.Plans.{IsLiveFile};
 ghost use Rattle.k_split.specs.Answers.{IsPaid};
+ghost use Rattle.k_split.specs.Gathers.{IsGatherReset};
 ghost use Rattle.k_split.specs.Resets.{IsResetAnswer, KeepsUnloggedContent};
 
-use crate::changes::land_plan;
+use crate::changes::land_change;
 use crate::faults::KFault;
 use crate::state::KSplit;
 use k_map_plans::plan_reset;
@@ -33,11 +34,15 @@ impl KSplit {
     ) -> Result<(), KFault>
         requires awake { self.old.lost ≡ true → is_on power.old ≡ false }
         requires file { self.old.lost ≡ false → IsLiveFile ino self.old.volume }
-        ensures steps { Steps 256 power.old power.new }
-        ensures paid { IsPaid None power.old power.new result }
+        ensures steps { self.old.batched ≡ false → Steps 256 power.old power.new }
+        ensures most { Steps 4112 power.old power.new }
+        ensures paid { self.old.batched ≡ false
+            → IsPaid None power.old power.new result }
         ensures answer { self.old.batched ≡ false
             → IsResetAnswer ino self.old self.new result }
-        ensures content { Follows (KeepsUnloggedContent self.old.volume)
+        ensures gathers { self.old.batched ≡ true
+            → IsGatherReset ino self.old self.new result }
+        ensures content { self.old.lines ≡ [] → Follows (KeepsUnloggedContent self.old.volume)
             self.old.cells self.new.cells }
     {
         if !power.on() {
@@ -47,11 +52,12 @@ impl KSplit {
         match plan_reset(alloc, &mut self.tables, &mut self.batch, ino) {
             Err(_) => Err(KFault::NoMemory),
             Ok(()) => {
-                self.tables.release();
-                land_plan(
+                land_change(
+                    self.batched,
+                    &mut self.group,
                     &mut self.batch,
                     &mut self.pm,
-                    &self.tables,
+                    &mut self.tables,
                     &mut self.lost,
                     power,
                 )

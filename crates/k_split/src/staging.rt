@@ -5,10 +5,11 @@ ghost use Rattle.block_io.specs.image_model.Volume.{extents};
 ghost use Rattle.k_map_plans.specs.Plans.{IsStagingFile};
 ghost use Rattle.block_io.specs.pm_model.Powers.{is_on, Steps};
 ghost use Rattle.k_split.specs.Answers.{IsPaid};
+ghost use Rattle.k_split.specs.Gathers.{IsGatherGiveUp, IsGatherPreallocate};
 ghost use Rattle.k_split.specs.MapChanges.{IsGiveUpAnswer, IsPreallocateAnswer, IsStagedSingle, free_blocks_in};
 
 use crate::faults::KFault;
-use crate::mapping::land_maps_plan;
+use crate::mapping::land_maps_change;
 use crate::state::KSplit;
 use k_map_plans::{MapFault, plan_give_up, plan_preallocate};
 use pm_lines::Power;
@@ -26,7 +27,7 @@ impl KSplit {
     ///
     /// # Steps
     ///
-    /// At most 2^15.
+    /// At most 2^15, and 4,112 more where changes gather.
     pub fn preallocate(
         &mut self,
         alloc: Global,
@@ -40,10 +41,14 @@ impl KSplit {
         requires most { count ≤ 64 }
         requires room { self.old.lost ≡ false
             → count + reserve self.old.volume.geometry ≤ free_blocks_in self.old + 1 }
-        ensures steps { Steps (2 ^ 15) power.old power.new }
-        ensures paid { IsPaid None power.old power.new result }
+        ensures steps { self.old.batched ≡ false → Steps (2 ^ 15) power.old power.new }
+        ensures most { Steps (2 ^ 15 + 4112) power.old power.new }
+        ensures paid { self.old.batched ≡ false
+            → IsPaid None power.old power.new result }
         ensures answer { self.old.batched ≡ false
             → IsPreallocateAnswer staging count self.old self.new result }
+        ensures gathers { self.old.batched ≡ true
+            → IsGatherPreallocate staging count self.old self.new result }
     {
         if !power.on() {
             self.lost = true;
@@ -54,12 +59,13 @@ impl KSplit {
             Err(MapFault::NoMemory) => return Err(KFault::NoMemory),
             Err(MapFault::Few) => unreachable!(),
         };
-        self.tables.release();
-        land_maps_plan(
+        land_maps_change(
+            self.batched,
             slice::from_ref(&map),
+            &mut self.group,
             &mut self.batch,
             &mut self.pm,
-            &self.tables,
+            &mut self.tables,
             &mut self.lost,
             power,
         )
@@ -74,16 +80,20 @@ impl KSplit {
     ///
     /// # Steps
     ///
-    /// At most 2^15.
+    /// At most 2^15, and 4,112 more where changes gather.
     pub fn give_up(&mut self, alloc: Global, staging: u32, power: &mut Power) -> Result<(), KFault>
         requires awake { self.old.lost ≡ true → is_on power.old ≡ false }
         requires staging { self.old.lost ≡ false → IsStagingFile staging self.old.volume }
         requires home { self.old.lost ≡ false
             → IsStagedSingle staging self.old.volume self.old.cells }
-        ensures steps { Steps (2 ^ 15) power.old power.new }
-        ensures paid { IsPaid None power.old power.new result }
+        ensures steps { self.old.batched ≡ false → Steps (2 ^ 15) power.old power.new }
+        ensures most { Steps (2 ^ 15 + 4112) power.old power.new }
+        ensures paid { self.old.batched ≡ false
+            → IsPaid None power.old power.new result }
         ensures answer { self.old.batched ≡ false
             → IsGiveUpAnswer staging self.old self.new result }
+        ensures gathers { self.old.batched ≡ true
+            → IsGatherGiveUp staging self.old self.new result }
     {
         if !power.on() {
             self.lost = true;
@@ -93,12 +103,13 @@ impl KSplit {
             Ok(map) => map,
             Err(_) => return Err(KFault::NoMemory),
         };
-        self.tables.release();
-        land_maps_plan(
+        land_maps_change(
+            self.batched,
             slice::from_ref(&map),
+            &mut self.group,
             &mut self.batch,
             &mut self.pm,
-            &self.tables,
+            &mut self.tables,
             &mut self.lost,
             power,
         )

@@ -1,9 +1,11 @@
 //! The state of K-Split, and what it is asked for without a look at a path.
-ghost use Rattle.std.specs.Prelude.{◌≡◌, [], false, IsTrue, ◌↔◌, ◌<◌};
+ghost use Rattle.std.specs.Prelude.{◌≡◌, ◌<◌, ◌↔◌, [], true, false, length, IsTrue};
 ghost use Rattle.layout_model.specs.Names.{names_of};
 ghost use Rattle.k_map_plans.specs.k_plans.View.{node_at};
-ghost use Rattle.k_split.specs.Order.{IsInOrder};
+ghost use Rattle.k_split.specs.Gathers.{IsSettledAt};
+ghost use Rattle.k_split.specs.Order.{IsInOrder, IsSteady};
 
+use k_group_commit::standing_block;
 use k_map_plans::{Batch, Geometry, Tables};
 use layout_model::Inode;
 use pm_lines::Pm;
@@ -14,11 +16,16 @@ use std::marker::Model;
 pub struct KSplit {
     pub(crate) pm: Pm,
     pub(crate) tables: Tables,
+    // The lines of the change that is planned; none between changes.
     pub(crate) batch: Batch,
+    // The lines of the open batch.
+    pub(crate) group: Batch,
     pub(crate) batched: bool,
     pub(crate) lost: bool,
     // Between two calls no block is set aside for a change.
     ghost none_aside: { tables.aside ≡ [] },
+    // The volume of the device rests on no word that is lent, also where the power went.
+    ghost steady: { batched ≡ true → IsSteady tables.volume.geometry pm },
 }
 
 impl Model for KSplit {
@@ -28,10 +35,17 @@ impl Model for KSplit {
 
     ghost Value = { View };
 
-    ghost view = { λ k. view_of k.tables k.pm k.batched k.lost };
+    ghost view = { λ k. view_of k.tables k.group k.pm k.batched k.lost };
 
     ghost invariant = { λ k. k.lost ≡ false
-        → IsReady (view_of k.tables k.pm k.batched k.lost) k.batch k.tables.aside };
+        → IsReady k.tables k.group k.batch k.pm k.batched };
+}
+
+// Whether both are the same block, or none.
+fn is_same(one: Option<u32>, other: Option<u32>) -> bool
+    ensures { IsTrue result ↔ (one ≡ other) }
+{
+    one == other
 }
 
 impl KSplit {
@@ -62,6 +76,30 @@ impl KSplit {
         ensures { result ≡ node_at self.now.volume ino }
     {
         self.tables.node(ino)
+    }
+
+    /// How many lines the open batch sets: none where changes do not gather.
+    pub fn pending(&self) -> u32
+        ensures { result ≡ length self.now.lines }
+    {
+        self.group.len()
+    }
+
+    /// Whether the committed map and the present one of an inode have the same disk block, or none, at
+    /// this file block. It reads the committed map from the device, and takes no memory.
+    pub fn settled(&self, ino: u32, block: u32) -> bool
+        requires on { self.now.lost ≡ false }
+        requires below { ino < length self.now.volume.inodes }
+        ensures { IsTrue result ↔ IsSettledAt ino block self.now }
+    {
+        let present = match self.tables.map(ino) {
+            Some(map) => map.lookup(block),
+            None => unreachable!(),
+        };
+        is_same(
+            present,
+            standing_block(&self.pm, self.tables.geometry(), ino, block),
+        )
     }
 
     /// The device.

@@ -16,13 +16,15 @@ use std::alloc::{AllocError, Global};
 impl KSplit {
     /// Every path with what stands there, a directory or the bytes of a file, in the byte order of
     /// the printed paths: what the volume makes of the words of the device, which is the content of
-    /// the device where no entry of its log is live. Nothing is lent. It takes memory for the tree.
+    /// the device where no entry of its log is live and nothing has gathered. Nothing is lent. It takes
+    /// memory for the tree.
     pub fn tree(&self, alloc: Global) -> Result<Tree, AllocError>
         requires awake { self.now.lost ≡ false }
         requires home { AllHome self.now.cells }
         ensures tree { IfOk result
             (IsTreeOf (tree_content (found self.now.volume [] (words_of self.now.cells)))) }
-        ensures content { live_entries self.now.volume (journaled (words_of self.now.cells)) ≡ []
+        ensures content { self.now.lines ≡ []
+            → live_entries self.now.volume (journaled (words_of self.now.cells)) ≡ []
             → IfOk result (IsTreeOf
             (tree_content (content self.now.volume.geometry (words_of self.now.cells)))) }
     {

@@ -1,1 +1,2 @@
+mod OneRun
 mod Rows

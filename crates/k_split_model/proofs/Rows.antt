@@ -2,42 +2,44 @@
 use Rattle.std.proofs.Common.{◌≡◌, ℕ, zero, suc, ◌+◌, ◌-◌, ◌<◌, ◌≤◌, Bool, true, false, not, ◌⊎◌, List, [], ◌∷◌, length, get_or, None, refl, sym, ◌∙◌, ap, subst, inl, inr, zero-add, arith}
 use Rattle.std.specs.Prelude.{AllPairs, ◌||◌, ◌==◌, nat_lt, if◌then◌else◌}
 use Rattle.std.specs.List.{list_all, list_any, range_with_len}
-use Rattle.std.proofs.lemmas.Bool.{both_ways, cases_lt, ltb-true}
+use Rattle.std.proofs.lemmas.Bool.{both_ways, cases_eq, cases_lt, ltb-true, ne_eqb}
 use Rattle.std.proofs.lemmas.Bool.Decides.{nat_tests}
 use Rattle.std.proofs.lemmas.List.FromFn.{get_or-range_with_len, length-range_with_len}
 use Rattle.std.proofs.lemmas.List.Elements.{All-cons, All-nil}
 use Rattle.std.proofs.lemmas.List.Kept.{AllPairs-cons}
 use Rattle.std.proofs.lemmas.List.Sums.{AllPass-from_list_all}
 use Rattle.image_model.specs.Uses.{owners}
+use Rattle.image_model.specs.Volume.{extents}
+use Rattle.image_model.specs.block_counts.Counts.{chains_for}
 use Rattle.image_model.specs.extent_model.declared.extent_words.Extent.{Extent}
 use Rattle.image_model.specs.extent_model.Extents.{disk_at, holds, is_within, ComesAfter, IsCanonical, IsExtent}
 use Rattle.image_model.specs.extent_model.Maps.{IsPart}
 use Rattle.image_model.specs.extent_model.Moves.{Moves}
-use Rattle.k_split_model.specs.MapChangesChanges.{Fills, HasInOrder, holes, in_order as order_of}
-use Rattle.k_split_model.specs.MapChangesExample.{AreChangesOfExample, is_free, run}
+use Rattle.k_split_model.specs.MapChangesChanges.{Fills, HasInOrder, holes, in_order as order_of, with_other}
+use Rattle.k_split_model.specs.MapChangesExample.{AreChangesOfExample, is_free, is_free_in, run, twice_staged}
 use Rattle.k_split_model.specs.Taken.{AreLowest}
 
 -- ---- the lowest free blocks
 
 -- a block that is free is one of the list
-abbrev is_listed : List ℕ → ℕ → Bool
-is_listed blocks b = not (is_free b) || list_any (λ t. t == b) blocks
+abbrev is_listed : (ℕ → Bool) → List ℕ → ℕ → Bool
+is_listed free blocks b = not (free b) || list_any (λ t. t == b) blocks
 
-listed : (blocks : List ℕ) (b : ℕ) → is_listed blocks b ≡ true → is_free b ≡ true → list_any (λ t. t == b) blocks ≡ true
-listed blocks b is free = rw (← is) (rw free refl)
+listed : (free : ℕ → Bool) (blocks : List ℕ) (b : ℕ) → is_listed free blocks b ≡ true → free b ≡ true → list_any (λ t. t == b) blocks ≡ true
+listed free blocks b is passes = rw (← is) (rw passes refl)
 
-below_top : (blocks : List ℕ) (top : ℕ) → AllPairs ◌<◌ blocks → list_all is_free blocks ≡ true
-    → list_all (is_listed blocks) (range_with_len 0 top) ≡ true → list_all (λ t. nat_lt t top) blocks ≡ true
-    → AreLowest is_free (length blocks) blocks
-below_top blocks top rising free all low = record {
+below_top : (free : ℕ → Bool) (blocks : List ℕ) (top : ℕ) → AllPairs ◌<◌ blocks → list_all free blocks ≡ true
+    → list_all (is_listed free blocks) (range_with_len 0 top) ≡ true → list_all (λ t. nat_lt t top) blocks ≡ true
+    → AreLowest free (length blocks) blocks
+below_top free blocks top rising were all low = record {
   count = refl;
   rising = rising;
-  were_free = AllPass-from_list_all is_free blocks free;
+  were_free = AllPass-from_list_all free blocks were;
   lowest = λ b is none. elim (cases_lt b top) [
     | inl below ↦
-        let at = AllPass-from_list_all (is_listed blocks) (range_with_len 0 top) all b 0 (omega (arith, length-range_with_len 0 top)) in
-        let here : is_listed blocks b ≡ true = subst (λ n. is_listed blocks n ≡ true) (get_or-range_with_len 0 top b 0 below ∙ zero-add b) at in
-        absurd (both_ways (list_any (λ t. t == b) blocks) none (listed blocks b here is))
+        let at = AllPass-from_list_all (is_listed free blocks) (range_with_len 0 top) all b 0 (omega (arith, length-range_with_len 0 top)) in
+        let here : is_listed free blocks b ≡ true = subst (λ n. is_listed free blocks n ≡ true) (get_or-range_with_len 0 top b 0 below ∙ zero-add b) at in
+        absurd (both_ways (list_any (λ t. t == b) blocks) none (listed free blocks b here is))
     | inr past ↦ λ k d within.
         let t = ltb-true (get_or blocks k d) top (AllPass-from_list_all (λ t. nat_lt t top) blocks low k d within) in
         omega (arith, t, past)
@@ -60,15 +62,20 @@ four a b c d ab bc cd =
 
 lowest-1 : AreLowest is_free 1 (13 ∷ [])
 unfolding owners
-lowest-1 = below_top (13 ∷ []) 14 (one 13) refl refl refl
+lowest-1 = below_top is_free (13 ∷ []) 14 (one 13) refl refl refl
 
 lowest-2 : AreLowest is_free 2 (13 ∷ 15 ∷ [])
 unfolding owners
-lowest-2 = below_top (13 ∷ 15 ∷ []) 16 (two 13 15 (omega arith)) refl refl refl
+lowest-2 = below_top is_free (13 ∷ 15 ∷ []) 16 (two 13 15 (omega arith)) refl refl refl
 
 lowest-4 : AreLowest is_free 4 (13 ∷ 15 ∷ 16 ∷ 17 ∷ [])
 unfolding owners
-lowest-4 = below_top (13 ∷ 15 ∷ 16 ∷ 17 ∷ []) 18 (four 13 15 16 17 (omega arith) (omega arith) (omega arith)) refl refl refl
+lowest-4 = below_top is_free (13 ∷ 15 ∷ 16 ∷ 17 ∷ []) 18 (four 13 15 16 17 (omega arith) (omega arith) (omega arith)) refl refl refl
+
+-- those of the volume with two staging files
+lowest-behind : AreLowest (is_free_in twice_staged) 2 (16 ∷ 17 ∷ [])
+unfolding owners
+lowest-behind = below_top (is_free_in twice_staged) (16 ∷ 17 ∷ []) 18 (two 16 17 (omega arith)) refl refl refl
 
 -- ---- maps of one extent and of two
 
@@ -188,6 +195,69 @@ moves = record {
   target_count = refl;
 }
 
+-- the first of two runs to file block 2, and the second
+first_goes : Moves 0 2 1 (run 0 10 2 ∷ []) old (run 1 11 1 ∷ []) (run 0 12 1 ∷ run 2 10 1 ∷ []) (run 2 14 1 ∷ [])
+first_goes = record {
+  source = record {
+    canonical = map-one (run 1 11 1) (extent (run 1 11 1) (omega arith) (omega arith) (omega arith));
+    blocks = each (λ b. disk_at (run 1 11 1 ∷ []) b ≡ (if not (is_within 0 1 b) then disk_at (run 0 10 2 ∷ []) b else None)) refl refl refl refl
+        (λ b past. far-none (run 1 11 1) b (omega arith) past
+        ∙ sym (rw (outside 0 1 b (omega arith) past) (far-none (run 0 10 2) b (omega arith) past)));
+  };
+  canonical = map-two (run 0 12 1) (run 2 10 1) (extent (run 0 12 1) (omega arith) (omega arith) (omega arith))
+      (extent (run 2 10 1) (omega arith) (omega arith) (omega arith)) (inl (omega arith));
+  target = each (λ b. disk_at (run 0 12 1 ∷ run 2 10 1 ∷ []) b ≡ (if is_within 2 1 b then disk_at (run 0 10 2 ∷ []) (0 + (b - 2)) else disk_at old b))
+      refl refl refl refl (λ b past.
+      far-two (run 0 12 1) (run 2 10 1) b (omega arith) (omega arith) past
+      ∙ sym (ap (λ t. if t then disk_at (run 0 10 2 ∷ []) (0 + (b - 2)) else disk_at old b) (outside 2 1 b (omega arith) past) ∙ far-two (run 0 12 1) (run 2 14 1) b (omega arith) (omega arith) past));
+  freed = moves.freed;
+  source_count = refl;
+  target_count = refl;
+}
+
+abbrev between : List Extent
+between = run 0 12 1 ∷ run 2 10 1 ∷ []
+
+second_goes : Moves 0 2 1 (run 0 15 1 ∷ []) between [] (run 0 12 1 ∷ run 2 15 1 ∷ []) (run 2 10 1 ∷ [])
+second_goes = record {
+  source = record {
+    canonical = map-none;
+    blocks = each (λ b. disk_at [] b ≡ (if not (is_within 0 1 b) then disk_at (run 0 15 1 ∷ []) b else None)) refl refl refl refl
+        (λ b past.
+        sym (ap (λ t. if not t then disk_at (run 0 15 1 ∷ []) b else None) (outside 0 1 b (omega arith) past) ∙ far-none (run 0 15 1) b (omega arith) past));
+  };
+  canonical = map-two (run 0 12 1) (run 2 15 1) (extent (run 0 12 1) (omega arith) (omega arith) (omega arith))
+      (extent (run 2 15 1) (omega arith) (omega arith) (omega arith)) (inl (omega arith));
+  target = each (λ b. disk_at (run 0 12 1 ∷ run 2 15 1 ∷ []) b ≡ (if is_within 2 1 b then disk_at (run 0 15 1 ∷ []) (0 + (b - 2)) else disk_at between b))
+      refl refl refl refl (λ b past.
+      far-two (run 0 12 1) (run 2 15 1) b (omega arith) (omega arith) past
+      ∙ sym (ap (λ t. if t then disk_at (run 0 15 1 ∷ []) (0 + (b - 2)) else disk_at between b) (outside 2 1 b (omega arith) past) ∙ far-two (run 0 12 1) (run 2 10 1) b (omega arith) (omega arith) past));
+  freed = record {
+    canonical = map-one (run 2 10 1) (extent (run 2 10 1) (omega arith) (omega arith) (omega arith));
+    blocks = each (λ b. disk_at (run 2 10 1 ∷ []) b ≡ (if is_within 2 1 b then disk_at between b else None)) refl refl refl refl (λ b past.
+        far-none (run 2 10 1) b (omega arith) past ∙ sym (ap (λ t. if t then disk_at between b else None) (outside 2 1 b (omega arith) past)));
+  };
+  source_count = refl;
+  target_count = refl;
+}
+
+-- what the two staging files have left, and their chains then
+abbrev both_left : ℕ → List Extent
+both_left = with_other 2 [] (with_other 1 (run 1 11 1 ∷ []) (extents twice_staged))
+
+abbrev both_chains : ℕ → List ℕ
+both_chains x = if x == 1 then 17 ∷ [] else []
+
+chains_left : (x : ℕ) → list_any (λ t. t == x) (1 ∷ 2 ∷ []) ≡ true → length (both_chains x) ≡ chains_for (length (both_left x))
+chains_left x is = elim (cases_eq x 1) [
+  | inl here ↦ subst (λ y. length (both_chains y) ≡ chains_for (length (both_left y))) (sym here) refl
+  | inr away ↦ elim (cases_eq x 2) [
+    | inl here ↦ subst (λ y. length (both_chains y) ≡ chains_for (length (both_left y))) (sym here) refl
+    | inr apart ↦ absurd (both_ways (list_any (λ t. t == x) (1 ∷ 2 ∷ []))
+        (rw (ne_eqb 1 x (λ same. away (sym same))) (rw (ne_eqb 2 x (λ same. apart (sym same))) refl)) is)
+  ]
+]
+
 -- ---- the rows
 
 pub rows : AreChangesOfExample
@@ -220,6 +290,25 @@ rows = record {
     moves = moves;
     size = refl;
     taken = lowest-2;
+    is_moved = refl;
+  };
+  all_moved = record {
+    left = both_left;
+    linked = run 0 12 1 ∷ run 2 15 1 ∷ [];
+    blocks = 16 ∷ [];
+    rests = both_chains;
+    moves = (
+      run 1 11 1 ∷ [],
+      between,
+      run 2 14 1 ∷ [],
+      run 2 10 1 ∷ [],
+      first_goes,
+      ([], run 0 12 1 ∷ run 2 15 1 ∷ [], run 2 10 1 ∷ [], [], second_goes, ((λ x. refl), refl, refl), refl),
+      refl,
+    );
+    size = refl;
+    sizes = chains_left;
+    taken = lowest-behind;
     is_moved = refl;
   };
 }

@@ -9,7 +9,8 @@ use Rattle.image_model.specs.Room.{has_none}
 use Rattle.image_model.specs.Uses.{owners}
 use Rattle.image_model.specs.Volume.{Volume}
 use Rattle.k_split_model.specs.declared.map_changes.moves.Move.{Move}
-use Rattle.k_split_model.specs.MapChangesChanges.{given_up, IsFilled, IsMoved, IsPreallocated, IsSized}
+use Rattle.k_split_model.specs.declared.map_changes.moves.MoveRun.{MoveRun}
+use Rattle.k_split_model.specs.MapChangesChanges.{AreAllMoved, given_up, IsFilled, IsMoved, IsPreallocated, IsSized, Landing}
 
 -- Data blocks are 8 to 63. Inode 1 is a staging file with chain block 8 and data blocks 10 and 11; inode 5 is a file with chain
 -- block 9, its file block 0 on block 12, its file block 2 on block 14, and a hole between.
@@ -41,14 +42,30 @@ small_volume =
     volume_with staged (8 ∷ []) (run 0 10 2 ∷ []) (empty_inode Staging 4) [] []
     filed (9 ∷ []) (run 0 12 1 ∷ run 2 14 1 ∷ [])
 
--- a data block that nothing names: 13, 15 and those behind
+-- a data block that nothing in the volume names; in the small one 13, 15 and those behind
+abbrev pub is_free_in : Volume → ℕ → Bool
+is_free_in v b = is_data_block v.geometry b && has_none (owners v b)
+
 abbrev pub is_free : ℕ → Bool
-is_free b = is_data_block small_volume.geometry b && has_none (owners small_volume b)
+is_free b = is_free_in small_volume b
 
 -- block 1 of the staging file goes to file block 2
 abbrev pub one_block : Move
 one_block =
     record { staging = 1; staging_block = 1; ino = 5; file_block = 2; count = 1; size = 9000; applied = 3 }
+
+-- The small volume with chain block 13 and data block 15 in staging file 2: 16 and those behind are free.
+abbrev pub twice_staged : Volume
+twice_staged =
+    volume_with staged (8 ∷ []) (run 0 10 2 ∷ []) (record { kind = Staging; generation = 4; size = 0; applied = 0; root = 13; extents = 1 })
+    (13 ∷ []) (run 0 15 1 ∷ []) filed (9 ∷ []) (run 0 12 1 ∷ run 2 14 1 ∷ [])
+
+-- block 0 of staging file 1 goes to file block 2, and then block 0 of staging file 2 goes there
+abbrev pub first_of : ℕ → MoveRun
+first_of x = record { staging = x; staging_block = 0; file_block = 2; count = 1 }
+
+abbrev pub both_blocks : Landing
+both_blocks = record { ino = 5; runs = first_of 1 ∷ first_of 2 ∷ []; size = 9000; applied = 3 }
 
 pub record AreChangesOfExample : Type 0 where
   -- a size of 100 bytes: file block 0 is left
@@ -83,3 +100,11 @@ pub record AreChangesOfExample : Type 0 where
       (empty_inode Staging 4) [] []
       (record { kind = File; generation = 7; size = 9000; applied = 3; root = 13; extents = 2 }) (13 ∷ []) (run 0 12 1 ∷ run 2 11 1 ∷ []))
       (run 2 14 1 ∷ [])
+  -- Blocks 10 and 15 of two staging files go to file block 2, one after the other: block 14 is displaced, and then block 10. The
+  -- chain of the file has block 16, and that of staging file 1 block 17. Staging file 2 has no block left, and so no chain.
+  pub all_moved :
+      AreAllMoved (is_free_in twice_staged) both_blocks twice_staged
+      (volume_with (record { kind = Staging; generation = 2; size = 0; applied = 0; root = 17; extents = 1 }) (17 ∷ []) (run 1 11 1 ∷ [])
+      (empty_inode Staging 4) [] []
+      (record { kind = File; generation = 7; size = 9000; applied = 3; root = 16; extents = 2 }) (16 ∷ []) (run 0 12 1 ∷ run 2 15 1 ∷ []))
+      (run 2 14 1 ∷ run 2 10 1 ∷ [])

@@ -15,4 +15,6 @@ mod changes;
 mod map_changes;
 
 pub use changes::a_small_volume_is_changed;
-pub use map_changes::{Move, maps_of_a_small_volume_change};
+pub use map_changes::{
+    Landing, Move, MoveRun, a_landing_of_one_run_is_a_move, maps_of_a_small_volume_change,
+};

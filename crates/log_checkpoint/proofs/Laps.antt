@@ -1,5 +1,5 @@
 -- The next lap begins with nothing staged: what it asks for, and what is answered.
-use Rattle.std.proofs.Common.{◌≡◌, ◌≤◌, ◌+◌, ◌/◌, ◌^◌, ℕ, zero, suc, Result, Ok, Err, sym, ◌∙◌, subst, inr}
+use Rattle.std.proofs.Common.{◌≡◌, ◌≤◌, ◌+◌, ◌/◌, ◌^◌, ℕ, zero, suc, Result, Ok, Err, sym, ◌∙◌, ap, subst, inr}
 use Rattle.std.specs.declared.alloc.AllocError.{AllocError}
 use Rattle.staging_files.specs.image_model.Volume.{extents}
 use Rattle.staging_files.specs.extent_model.Covers.{covers-disk_at, disk_at-covers}
@@ -8,9 +8,9 @@ use Rattle.fsync_relink.specs.Others.{GoesOn, KeepsRest}
 use Rattle.staging_files.specs.k_journal.declared.outcomes.Commit.{Commit}
 use Rattle.staging_files.specs.k_map_plans.Plans.{IsStagingFile}
 use Rattle.staging_files.specs.k_split_model.View.{View}
-use Rattle.staging_files.specs.k_split.Laps.{HasNextLap, next_base}
+use Rattle.staging_files.specs.k_split.Laps.{HasNextLap, IsBaseAnswer, next_base}
 use Rattle.staging_files.proofs.GiveUpLaws.{staging-file}
-use Rattle.staging_files.specs.GivesUp.{AllStagedSingle, AreGivenUp}
+use Rattle.staging_files.specs.GivesUp.{AllStagedSingle, AreGivenUp, IsGiveUpAllAnswer}
 use Rattle.staging_files.specs.Keeps.{Staged}
 use Rattle.fsync_relink.proofs.RelinkLaws.{has-chain}
 use Rattle.log_checkpoint.specs.Gathers.{AreAllDone, IsGatherAnswer, IsLapAnswer}
@@ -42,6 +42,18 @@ given-on (suc n) k l on (middle, before, last) = record {
 }
 
 -- ---- what is answered
+
+-- the next lap behind it, or the power went in its transaction
+pub lap-behind : (k bare l : View) (s t : Staged) (r : Commit) → GoesOn k → IsGiveUpAllAnswer s k t bare (Ok Commit.Done)
+    → IsBaseAnswer (next_base bare.volume) bare l r → IsLapAnswer k t l (Ok r)
+lap-behind k bare l s t Commit.Done on gave lap = record {
+  bare = bare;
+  given_up = gave.2;
+  lap = subst (λ n. IsBaseAnswer n bare l Commit.Done) (ap next_base gave.1) lap;
+  goes_on = record { order = lap.1.order; unbatched = lap.1.batched ∙ (given-on 4 k bare on gave.2).unbatched; on = lap.1.kept_on };
+  staging = gave.0;
+}
+lap-behind k bare l s t Commit.PowerLost on gave lap = inr (bare, gave.2, subst (λ n. IsBaseAnswer n bare l Commit.PowerLost) (ap next_base gave.1) lap)
 
 -- all files were published, and then it went on to this
 pub gathered : (t u : Files) (k published l : View) (s : Staged) (r : Result Commit AllocError) → AreAllDone t k u published → IsLapAnswer published s l r → IsGatherAnswer t k s u l r

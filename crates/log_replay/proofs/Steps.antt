@@ -24,6 +24,7 @@ use Rattle.fsync_relink.specs.log_laws.image_model.Checked.{IsCheckedAs}
 use Rattle.fsync_relink.specs.log_laws.image_model.Content.{content, disk_of, size_of}
 use Rattle.fsync_relink.specs.log_laws.image_model.Live.{entry_in, is_file, is_live, live_entries, valid_entries}
 use Rattle.fsync_relink.specs.log_laws.image_model.Reading.{Reads}
+use Rattle.fsync_relink.specs.log_laws.image_model.Room.{unused_blocks}
 use Rattle.fsync_relink.specs.log_laws.image_model.Rules.{geometry_of, IsChecked}
 use Rattle.fsync_relink.specs.log_laws.image_model.Volume.{chain, extents, free_inode, inode, Volume}
 use Rattle.std.specs.List.{range_with_len}
@@ -39,7 +40,7 @@ use Rattle.k_split.specs.k_plans.Whole.{IsWhole}
 use Rattle.fsync_relink.specs.log_laws.k_split_model.Stands.{IsOldOrNew}
 use Rattle.fsync_relink.specs.log_laws.k_split_model.View.{View}
 use Rattle.k_split.specs.Answers.{IsPaid}
-use Rattle.k_split.specs.MapChanges.{ChangesMaps, free_blocks_in, is_free_in, IsMovedSingle, IsMovedWith, IsRelinkAnswer}
+use Rattle.k_split.specs.MapChanges.{ChangesMaps, is_free_in, IsMovedSingle, IsMovedWith, IsRelinkAnswer}
 use Rattle.k_split.specs.declared.faults.KFault.{KFault}
 use Rattle.fsync_relink.specs.Moves.{move_for}
 use Rattle.fsync_relink.specs.log_laws.volume_laws.Footprint.{SameLog}
@@ -53,7 +54,6 @@ use Rattle.fsync_relink.specs.Laws.{IsRelinkOf}
 use Rattle.fsync_relink.specs.log_laws.Logs.{AreSound, CarriesOut, HasSameFiles, IsNext}
 use Rattle.fsync_relink.specs.Images.{IsCarried}
 use Rattle.fsync_relink.specs.log_laws.world_write_laws.Relinks.{SameLine}
-use Rattle.log_replay.proofs.Passed.{free-unnamed}
 use Rattle.log_replay.specs.Replays.{IsReplayAnswer, IsReplayed, IsReplayPaid, live_in, MayReplay, seen, ShowsTheSame, stopped_by}
 use Rattle.fsync_relink.proofs.log_laws_proofs.Heads.{headed-next}
 use Rattle.fsync_relink.proofs.log_laws_proofs.Kept.{log-carried, log-same}
@@ -181,10 +181,10 @@ module _ (k0 : View) (d : Draft) (left : List Draft) (k : View) (way : IsOnTheWa
   pub moves-single : IsMovedSingle (move_for d d.size) k.volume k.cells
   moves-single b i within at = way.rest.single i
 
-  pub room-there : reserve k.volume.geometry ≤ free_blocks_in k + 2
+  pub room-there : reserve k.volume.geometry ≤ unused_blocks k.volume + 2
   room-there =
       let one = some-member (live_in k) d alive in
-      omega (arith, way.checked.log.recovers.unused, one, free-unnamed k (way.rest.order.none_waits way.rest.unbatched))
+      omega (arith, way.checked.log.recovers.unused, one)
 
   -- ---- a relink, done or cut off
 

@@ -26,11 +26,10 @@ use Rattle.k_split.specs.k_plans.Whole.{IsWhole}
 use Rattle.staging_files.specs.k_split_model.View.{View}
 use Rattle.staging_files.specs.k_split.declared.faults.KFault.{KFault}
 use Rattle.staging_files.specs.k_split.SizeLaws.{sized-free}
-use Rattle.staging_files.specs.k_split.MapChanges.{ChangesMaps, free_blocks_in, is_free_in, IsSizeAnswer, IsSizedWith}
+use Rattle.staging_files.specs.k_split.MapChanges.{ChangesMaps, is_free_in, IsSizeAnswer, IsSizedWith}
 use Rattle.staging_files.specs.k_split_model.MapChangesChanges.{IsSized, with_size}
 use Rattle.staging_files.specs.k_split_model.Taken.{switched, with_map}
 use Rattle.staging_files.proofs.GiveUpLaws.{staging-file}
-use Rattle.staging_files.proofs.RoomLaws.{free-unused}
 use Rattle.staging_files.specs.Keeps.{IsStaging}
 use Rattle.k_check.specs.volume_laws.Changes.{extents-set_other, extents-set_same}
 use Rattle.staging_files.specs.volume_change_laws.Bounds.{count_below-most}
@@ -192,8 +191,8 @@ size-fits k ino quiet live = fits (inode k.volume ino) live.file (quiet.rest.ord
       let own : is_inode_of_kind File x ≡ true = subst (λ kind. is_inode_of_kind kind x ≡ true) file is in
       grind (arith, nat_tests, own)
 
-pub room-there : (k : View) → IsQuiet k → reserve k.volume.geometry ≤ free_blocks_in k + 3
-room-there k quiet = omega (arith, quiet.checked.log.recovers.unused, free-unused k (quiet.rest.order.none_waits quiet.rest.unbatched))
+pub room-there : (k : View) → IsQuiet k → reserve k.volume.geometry ≤ unused_blocks k.volume + 3
+room-there k quiet = omega (arith, quiet.checked.log.recovers.unused)
 
 -- ---- one inode after the other
 

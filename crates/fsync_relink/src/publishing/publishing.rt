@@ -4,7 +4,7 @@ ghost use Rattle.log_laws.specs.layout_model.block_counts.declared.TheConstants.
 ghost use Rattle.log_laws.specs.layout_model.Places.{reserve};
 ghost use Rattle.log_laws.specs.image_model.Volume.{inode};
 ghost use Rattle.k_split.specs.k_map_plans.Plans.{IsLiveFile};
-ghost use Rattle.k_split.specs.MapChanges.{free_blocks_in};
+ghost use Rattle.log_laws.specs.image_model.Room.{unused_blocks};
 ghost use Rattle.k_split.specs.Order.{IsInOrder};
 ghost use Rattle.log_laws.specs.pm_model.Images.{Follows};
 ghost use Rattle.log_laws.specs.pm_model.Powers.{is_on, Steps};
@@ -79,7 +79,7 @@ fn resize(
     requires unbatched { k.old.batched ≡ false }
     requires file { IsLiveFile ino k.old.volume }
     requires size { size ≤ LONGEST_FILE }
-    requires room { reserve k.old.volume.geometry ≤ free_blocks_in k.old + 3 }
+    requires room { reserve k.old.volume.geometry ≤ unused_blocks k.old.volume + 3 }
     ensures steps { Steps (2 ^ 15) power.old power.new }
     ensures paid { IsPublishPaid power.new result }
     ensures answer { IsResizedOnce ino size k.old k.new result }

@@ -1,5 +1,5 @@
 //! One inode goes over to another map, or keeps its own with another line.
-ghost use Rattle.std.specs.Prelude.{◌≡◌, ◌<◌, [], All, length, Err, IfOk, OnErr, OnOk};
+ghost use Rattle.std.specs.Prelude.{◌≡◌, ◌<◌, ◌≤◌, [], All, length, Err, IfOk, OnErr, OnOk};
 ghost use Rattle.block_counts.specs.Counts.{chains_for};
 ghost use Rattle.k_relink.specs.extent_model.Extents.{IsExtent};
 ghost use Rattle.k_map_plans.specs.Going.{HasGoneOver, HasSetAside, MayGoOver, MayKeep, kept_map};
@@ -70,6 +70,7 @@ pub(crate) fn keep_map(
         (tables.new ≡ with_volume (kept_map ino inode.now tables.old.volume) tables.old) }
     ensures plan { OnOk result
         (IsMapPlan [] tables.old.volume tables.new.volume batch.new) }
+    ensures line { OnOk result (length batch.new ≤ 1) }
     ensures aside { OnOk result (SetsFreedAside tables.old tables.new) }
     ensures same { OnErr result (tables.new ≡ tables.old) }
     ensures no_lines { OnErr result (batch.new ≡ []) }

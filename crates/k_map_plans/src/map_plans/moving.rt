@@ -27,8 +27,13 @@ use k_relink::{RelinkFault, Relinked, relink};
 use layout_model::Inode;
 use std::alloc::{AllocError, Global};
 
-// The disk blocks of `count` file blocks of a map from `from` on, each of which has one.
-fn blocks_at(alloc: Global, map: &ExtentMap, from: u32, count: u32) -> Result<Vec<u32>, AllocError>
+/// The disk blocks of `count` file blocks of a map from `from` on, each of which has one.
+pub(crate) fn blocks_at(
+    alloc: Global,
+    map: &ExtentMap,
+    from: u32,
+    count: u32,
+) -> Result<Vec<u32>, AllocError>
     requires fits { from + count ≤ 4096 }
     requires there { IsMapped map.now from count }
     ensures size { IfOk result (λ blocks. length blocks.items ≡ count) }

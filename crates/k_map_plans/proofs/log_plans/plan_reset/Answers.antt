@@ -21,4 +21,4 @@ returns c =
     reset-answer t u c.args.ino c.keep_map.new.batch c.keep_map.result c.requires.own
     (subst (λ (inodes : List Inode). OnOk c.keep_map.result (u ≡ with_volume (kept_map c.args.ino (unapplied (slice_index_or inodes c.args.ino free_inode)) t.volume) t))
     c.inodes.ensures c.keep_map.ensures.kept)
-    c.keep_map.ensures.plan c.keep_map.ensures.aside c.keep_map.ensures.same c.keep_map.ensures.no_lines
+    c.keep_map.ensures.plan c.keep_map.ensures.line c.keep_map.ensures.aside c.keep_map.ensures.same c.keep_map.ensures.no_lines

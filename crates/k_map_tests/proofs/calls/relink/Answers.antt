@@ -6,3 +6,6 @@ pub returns : goal.returns
 returns c =
     c.reply_of.ensures c.relink.new.self
     (map-left (λ w blocks. IsMovedWith c.args.asked.now c.args.k.now w blocks) c.args.k.now c.relink.new.self c.relink.result (c.relink.ensures.answer c.requires.unbatched) c.requires)
+
+pub has_reserve-requires : goal.has_reserve-requires
+has_reserve-requires c = c.requires.order.none_waits c.requires.unbatched

@@ -37,3 +37,9 @@ returns-in-Done-clause-content c =
     c.begin_bare_lap.new.staging c.begin_bare_lap.result (c.requires.may on.on) on (c.requires.next on.on)
     (gathered c.args.files.now c.publish_all.new.files c.args.k.now c.publish_all.new.k c.begin_bare_lap.new.k c.begin_bare_lap.new.staging c.begin_bare_lap.result done
     c.begin_bare_lap.ensures.answer)
+
+pub returns-in-Done-clause-answer : goal.returns-in-Done-clause-answer
+returns-in-Done-clause-answer c =
+    let done : AreAllDone c.args.files.now c.args.k.now c.publish_all.new.files c.publish_all.new.k = rw c.in-Done.is at c.in_ok-commit.ensures.answer in
+    gathered c.args.files.now c.publish_all.new.files c.args.k.now c.publish_all.new.k c.begin_bare_lap.new.k c.begin_bare_lap.new.staging c.begin_bare_lap.result done
+    c.begin_bare_lap.ensures.answer

@@ -44,12 +44,12 @@ give_up-requires-clause-home c on = c.loop-staging.invariant.0.single c.loop-sta
 pub returns-in-Err-clause-steps : goal.returns-in-Err-clause-steps
 returns-in-Err-clause-steps c =
     fewer-steps (32768 * (c.loop-staging.staging - 1) + 32768) 131072 c.args.power.now c.give_up.new.power (omega arith)
-    (Steps-then (32768 * (c.loop-staging.staging - 1)) 32768 c.args.power.now c.loop-staging.power c.give_up.new.power c.loop-staging.invariant.1 c.in-Err.ensures.steps)
+    (Steps-then (32768 * (c.loop-staging.staging - 1)) 32768 c.args.power.now c.loop-staging.power c.give_up.new.power c.loop-staging.invariant.1 (c.in-Err.ensures.steps c.loop-staging.invariant.0.unbatched))
 
 pub returns-in-Err-clause-paid : goal.returns-in-Err-clause-paid
 returns-in-Err-clause-paid c =
     subst (IsGiveUpAllPaid c.give_up.new.power) (sym c.stopped_by.ensures)
-    (stopped-paid c.loop-staging.staging c.loop-staging.k c.give_up.new.self c.loop-staging.power c.give_up.new.power c.in-Err.fault (c.in-Err.ensures.answer c.loop-staging.invariant.0.unbatched) c.in-Err.ensures.paid)
+    (stopped-paid c.loop-staging.staging c.loop-staging.k c.give_up.new.self c.loop-staging.power c.give_up.new.power c.in-Err.fault (c.in-Err.ensures.answer c.loop-staging.invariant.0.unbatched) (c.in-Err.ensures.paid c.loop-staging.invariant.0.unbatched))
 
 pub returns-in-Err-clause-answer : goal.returns-in-Err-clause-answer
 returns-in-Err-clause-answer c =
@@ -67,8 +67,8 @@ loop-staging-preserved c =
           (next-given (c.loop-staging.staging - 1) c.args.k.now c.loop-staging.k c.give_up.new.self (omega arith) c.loop-staging.invariant.0
           (subst (λ n. IsGiveUpAnswer n c.loop-staging.k c.give_up.new.self (Ok tt)) same (c.in-Ok.ensures.answer c.loop-staging.invariant.0.unbatched))),
       subst (λ n. Steps n c.args.power.now c.give_up.new.power) steps
-          (Steps-then (32768 * (c.loop-staging.staging - 1)) 32768 c.args.power.now c.loop-staging.power c.give_up.new.power c.loop-staging.invariant.1 c.in-Ok.ensures.steps),
-      λ two. c.in-Ok.ensures.paid.0,
+          (Steps-then (32768 * (c.loop-staging.staging - 1)) 32768 c.args.power.now c.loop-staging.power c.give_up.new.power c.loop-staging.invariant.1 (c.in-Ok.ensures.steps c.loop-staging.invariant.0.unbatched)),
+      λ two. (c.in-Ok.ensures.paid c.loop-staging.invariant.0.unbatched).0,
     )
 
 pub returns-clause-steps : goal.returns-clause-steps

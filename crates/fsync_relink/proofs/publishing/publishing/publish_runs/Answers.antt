@@ -1,8 +1,11 @@
 use Rattle.std.proofs.Common.{◌+◌, ◌*◌, length, arith}
 use Rattle.fsync_relink.proofs.LoggedLaws.{carried-images}
 use Rattle.fsync_relink.proofs.PublishedLaws.{each-carried, none-there, resized-carried, some-there}
-use Rattle.fsync_relink.proofs.WayLaws.{steps-within}
+use Rattle.fsync_relink.proofs.WayLaws.{publish-room, steps-within}
 use Rattle.fsync_relink.proofs.publishing.publishing.publish_runs.Goals as goal
+
+pub resize-requires-clause-room : goal.resize-requires-clause-room
+resize-requires-clause-room c = publish-room c.args.ino c.args.size c.args.runs.now c.args.k.now c.requires.order c.requires.unbatched c.requires.may
 
 pub returns-then-is_empty-clause-steps : goal.returns-then-is_empty-clause-steps
 returns-then-is_empty-clause-steps c = steps-within 32768 (32768 * (length c.args.runs.now + 1)) c.args.power.now c.resize.new.power (omega arith) c.resize.ensures.steps

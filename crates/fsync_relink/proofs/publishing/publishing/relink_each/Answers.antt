@@ -38,14 +38,14 @@ relink-requires-clause-room c on =
 pub returns-in-Err-clause-steps : goal.returns-in-Err-clause-steps
 returns-in-Err-clause-steps c =
     steps-within (32768 * (c.loop-place.place + 1)) (32768 * length c.args.runs.now) c.args.power.now c.relink.new.power (omega (arith, c.loop-place-test.true))
-    (steps-on c.loop-place.place c.args.power.now c.loop-place.power c.relink.new.power c.loop-place.invariant.1 c.in-Err.ensures.steps)
+    (steps-on c.loop-place.place c.args.power.now c.loop-place.power c.relink.new.power c.loop-place.invariant.1 (c.in-Err.ensures.steps c.loop-place.invariant.0.unbatched))
 
 pub returns-in-Err-clause-paid : goal.returns-in-Err-clause-paid
 returns-in-Err-clause-paid c =
     let is = move-is c.args.ino c.args.size c.length_then-then.result c.loop-place.place _ c.args.runs.now c.loop-place.k c.move_of.result c.length_then-then.ensures c.move_of.ensures in
     subst (IsPublishPaid c.relink.new.power) (sym c.stopped_by.ensures)
     (way-stops-paid c.args.ino c.args.size _ (drop (c.loop-place.place + 1) c.args.runs.now) c.loop-place.k c.relink.new.self c.loop-place.power c.relink.new.power c.in-Err.fault
-    (subst (λ m. IsRelinkAnswer m c.loop-place.k c.relink.new.self (Err c.in-Err.fault)) is (c.in-Err.ensures.answer c.loop-place.invariant.0.unbatched)) c.in-Err.ensures.paid)
+    (subst (λ m. IsRelinkAnswer m c.loop-place.k c.relink.new.self (Err c.in-Err.fault)) is (c.in-Err.ensures.answer c.loop-place.invariant.0.unbatched)) (c.in-Err.ensures.paid c.loop-place.invariant.0.unbatched))
 
 pub returns-in-Err-clause-answer : goal.returns-in-Err-clause-answer
 returns-in-Err-clause-answer c =
@@ -61,8 +61,8 @@ loop-place-preserved c =
     let is = move-is c.args.ino c.args.size c.length_then-then.result c.loop-place.place _ c.args.runs.now c.loop-place.k c.move_of.result c.length_then-then.ensures c.move_of.ensures in (
       way-goes_on c.args.ino c.args.size c.args.runs.now _ (drop (c.loop-place.place + 1) c.args.runs.now) c.args.k.now c.loop-place.k c.relink.new.self way
           (subst (λ m. IsRelinkAnswer m c.loop-place.k c.relink.new.self (Ok tt)) is (c.in-Ok.ensures.answer c.loop-place.invariant.0.unbatched)),
-      steps-on c.loop-place.place c.args.power.now c.loop-place.power c.relink.new.power c.loop-place.invariant.1 c.in-Ok.ensures.steps,
-      c.in-Ok.ensures.paid.0,
+      steps-on c.loop-place.place c.args.power.now c.loop-place.power c.relink.new.power c.loop-place.invariant.1 (c.in-Ok.ensures.steps c.loop-place.invariant.0.unbatched),
+      (c.in-Ok.ensures.paid c.loop-place.invariant.0.unbatched).0,
     )
 
 pub returns-clause-steps : goal.returns-clause-steps

@@ -20,12 +20,12 @@ pub returns-in-Ok-clause-answer : goal.returns-in-Ok-clause-answer
 returns-in-Ok-clause-answer c = inr (λ same. c.if-length_of-size.false (c.length_of.ensures ∙ same), (c.in-Ok.ensures.answer c.requires.unbatched))
 
 pub returns-in-Ok-clause-paid : goal.returns-in-Ok-clause-paid
-returns-in-Ok-clause-paid c = c.in-Ok.ensures.paid.0
+returns-in-Ok-clause-paid c = (c.in-Ok.ensures.paid c.requires.unbatched).0
 
 pub returns-in-Err-clause-paid : goal.returns-in-Err-clause-paid
 returns-in-Err-clause-paid c =
     subst (IsPublishPaid c.set_size.new.power) (sym c.stopped_by.ensures)
-    (resize-stops-paid c.args.ino c.args.size c.args.k.now c.set_size.new.self c.args.power.now c.set_size.new.power c.in-Err.fault (c.in-Err.ensures.answer c.requires.unbatched) c.in-Err.ensures.paid)
+    (resize-stops-paid c.args.ino c.args.size c.args.k.now c.set_size.new.self c.args.power.now c.set_size.new.power c.in-Err.fault (c.in-Err.ensures.answer c.requires.unbatched) (c.in-Err.ensures.paid c.requires.unbatched))
 
 pub returns-in-Err-clause-answer : goal.returns-in-Err-clause-answer
 returns-in-Err-clause-answer c =

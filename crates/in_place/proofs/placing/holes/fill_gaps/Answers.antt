@@ -79,12 +79,12 @@ loop-block-preserved c =
     let unstaged = subst (λ (runs : List Run). IsUnstaged runs block (c.args.first + c.args.count) bare) c.overlay.ensures c.unstaged_from-bare.ensures in
     let fits : c.args.first + c.args.count ≤ 4096 = (let all = blocks_fit k staging files c.args.ino c.requires.has in let range = c.requires.range in omega (arith, all, range)) in
     let unbatched = off k l staging files c.args.ino c.args.first c.args.count block bare c.requires.has c.loop-block.invariant.to below unstaged fits in
-    let next = fills_on k l c.fill_holes.new.self staging files c.args.ino c.args.first c.args.count block bare c.requires.has c.loop-block.invariant.to below unstaged c.requires.range c.requires.few c.requires.room c.holes_are_filled_in_flight.ensures.done c.holes_are_filled_as_asked.ensures c.args.power.now c.loop-block.power c.fill_holes.new.power c.loop-block.invariant.steps c.in-Ok.ensures.steps
-    c.in-Ok.ensures.paid (c.in-Ok.ensures.answer unbatched) in
+    let next = fills_on k l c.fill_holes.new.self staging files c.args.ino c.args.first c.args.count block bare c.requires.has c.loop-block.invariant.to below unstaged c.requires.range c.requires.few c.requires.room c.holes_are_filled_in_flight.ensures.done c.holes_are_filled_as_asked.ensures c.args.power.now c.loop-block.power c.fill_holes.new.power c.loop-block.invariant.steps (c.in-Ok.ensures.steps unbatched)
+    (c.in-Ok.ensures.paid unbatched) (c.in-Ok.ensures.answer unbatched) in
     let sum : block + bare + 1 ≡ block + (bare + 1) = omega arith in
     record {
       to = subst (λ b. IsFilledTo k c.fill_holes.new.self staging files c.args.ino c.args.first c.args.count b) sum next.0;
-      on = c.in-Ok.ensures.paid.0;
+      on = (c.in-Ok.ensures.paid unbatched).0;
       steps = subst (λ b. Steps (steps_to k files c.args.ino c.args.first c.args.count b) c.args.power.now c.fill_holes.new.power) sum next.1;
     }
 
@@ -105,7 +105,17 @@ returns-in-Err-PowerLost-clause-answer c =
 
 pub returns-in-Err-PowerLost-clause-paid : goal.returns-in-Err-PowerLost-clause-paid
 returns-in-Err-PowerLost-clause-paid c =
-    subst (λ (fault : KFault). IsPaid {T = Unit {0}} (fill_row c.args.ino c.loop-block.block c.unstaged_from-bare.result c.loop-block.k) c.loop-block.power c.fill_holes.new.power (Err fault)) c.in-Err-PowerLost.field-0-is c.in-Err-PowerLost.ensures.paid
+    let k = c.args.k.now in
+    let l = c.loop-block.k in
+    let staging = c.args.staging.now in
+    let files = c.args.files.now in
+    let block = c.loop-block.block in
+    let bare = c.unstaged_from-bare.result in
+    let below : block < c.args.first + c.args.count = omega arith in
+    let unstaged = subst (λ (runs : List Run). IsUnstaged runs block (c.args.first + c.args.count) bare) c.overlay.ensures c.unstaged_from-bare.ensures in
+    let fits : c.args.first + c.args.count ≤ 4096 = (let all = blocks_fit k staging files c.args.ino c.requires.has in let range = c.requires.range in omega (arith, all, range)) in
+    let unbatched = off k l staging files c.args.ino c.args.first c.args.count block bare c.requires.has c.loop-block.invariant.to below unstaged fits in
+    subst (λ (fault : KFault). IsPaid {T = Unit {0}} (fill_row c.args.ino c.loop-block.block c.unstaged_from-bare.result c.loop-block.k) c.loop-block.power c.fill_holes.new.power (Err fault)) c.in-Err-PowerLost.field-0-is (c.in-Err-PowerLost.ensures.paid unbatched)
 
 pub returns-in-Err-PowerLost-clause-steps : goal.returns-in-Err-PowerLost-clause-steps
 returns-in-Err-PowerLost-clause-steps c =
@@ -117,7 +127,9 @@ returns-in-Err-PowerLost-clause-steps c =
     let bare = c.unstaged_from-bare.result in
     let below : block < c.args.first + c.args.count = omega arith in
     let unstaged = subst (λ (runs : List Run). IsUnstaged runs block (c.args.first + c.args.count) bare) c.overlay.ensures c.unstaged_from-bare.ensures in
-    steps_at_end k l c.fill_holes.new.self staging files c.args.ino c.args.first c.args.count block bare c.requires.has c.loop-block.invariant.to below unstaged c.requires.range c.requires.few c.requires.room c.args.power.now c.loop-block.power c.fill_holes.new.power c.loop-block.invariant.steps c.in-Err-PowerLost.ensures.steps
+    let fits : c.args.first + c.args.count ≤ 4096 = (let all = blocks_fit k staging files c.args.ino c.requires.has in let range = c.requires.range in omega (arith, all, range)) in
+    let unbatched = off k l staging files c.args.ino c.args.first c.args.count block bare c.requires.has c.loop-block.invariant.to below unstaged fits in
+    steps_at_end k l c.fill_holes.new.self staging files c.args.ino c.args.first c.args.count block bare c.requires.has c.loop-block.invariant.to below unstaged c.requires.range c.requires.few c.requires.room c.args.power.now c.loop-block.power c.fill_holes.new.power c.loop-block.invariant.steps (c.in-Err-PowerLost.ensures.steps unbatched)
 
 pub returns-in-Err-NoMemory-clause-answer : goal.returns-in-Err-NoMemory-clause-answer
 returns-in-Err-NoMemory-clause-answer c =
@@ -137,7 +149,17 @@ returns-in-Err-NoMemory-clause-answer c =
 
 pub returns-in-Err-NoMemory-clause-paid : goal.returns-in-Err-NoMemory-clause-paid
 returns-in-Err-NoMemory-clause-paid c =
-    (subst (λ (fault : KFault). IsPaid {T = Unit {0}} (fill_row c.args.ino c.loop-block.block c.unstaged_from-bare.result c.loop-block.k) c.loop-block.power c.fill_holes.new.power (Err fault)) c.in-Err-NoMemory.field-0-is c.in-Err-NoMemory.ensures.paid).1
+    let k = c.args.k.now in
+    let l = c.loop-block.k in
+    let staging = c.args.staging.now in
+    let files = c.args.files.now in
+    let block = c.loop-block.block in
+    let bare = c.unstaged_from-bare.result in
+    let below : block < c.args.first + c.args.count = omega arith in
+    let unstaged = subst (λ (runs : List Run). IsUnstaged runs block (c.args.first + c.args.count) bare) c.overlay.ensures c.unstaged_from-bare.ensures in
+    let fits : c.args.first + c.args.count ≤ 4096 = (let all = blocks_fit k staging files c.args.ino c.requires.has in let range = c.requires.range in omega (arith, all, range)) in
+    let unbatched = off k l staging files c.args.ino c.args.first c.args.count block bare c.requires.has c.loop-block.invariant.to below unstaged fits in
+    (subst (λ (fault : KFault). IsPaid {T = Unit {0}} (fill_row c.args.ino c.loop-block.block c.unstaged_from-bare.result c.loop-block.k) c.loop-block.power c.fill_holes.new.power (Err fault)) c.in-Err-NoMemory.field-0-is (c.in-Err-NoMemory.ensures.paid unbatched)).1
 
 pub returns-in-Err-NoMemory-clause-steps : goal.returns-in-Err-NoMemory-clause-steps
 returns-in-Err-NoMemory-clause-steps c =
@@ -149,7 +171,9 @@ returns-in-Err-NoMemory-clause-steps c =
     let bare = c.unstaged_from-bare.result in
     let below : block < c.args.first + c.args.count = omega arith in
     let unstaged = subst (λ (runs : List Run). IsUnstaged runs block (c.args.first + c.args.count) bare) c.overlay.ensures c.unstaged_from-bare.ensures in
-    steps_at_end k l c.fill_holes.new.self staging files c.args.ino c.args.first c.args.count block bare c.requires.has c.loop-block.invariant.to below unstaged c.requires.range c.requires.few c.requires.room c.args.power.now c.loop-block.power c.fill_holes.new.power c.loop-block.invariant.steps c.in-Err-NoMemory.ensures.steps
+    let fits : c.args.first + c.args.count ≤ 4096 = (let all = blocks_fit k staging files c.args.ino c.requires.has in let range = c.requires.range in omega (arith, all, range)) in
+    let unbatched = off k l staging files c.args.ino c.args.first c.args.count block bare c.requires.has c.loop-block.invariant.to below unstaged fits in
+    steps_at_end k l c.fill_holes.new.self staging files c.args.ino c.args.first c.args.count block bare c.requires.has c.loop-block.invariant.to below unstaged c.requires.range c.requires.few c.requires.room c.args.power.now c.loop-block.power c.fill_holes.new.power c.loop-block.invariant.steps (c.in-Err-NoMemory.ensures.steps unbatched)
 
 pub returns-clause-steps : goal.returns-clause-steps
 returns-clause-steps c =

@@ -1,4 +1,5 @@
-use Rattle.std.proofs.Common.{◌∙◌, [], ap}
+use Rattle.std.proofs.Common.{◌∙◌, [], List, length, ap, arith}
+use Rattle.k_plans.specs.k_journal.declared.batches.Record.{Record}
 use Rattle.k_plans.specs.View.{TablesView}
 use Rattle.k_map_plans.proofs.Goings.{kept-aside}
 use Rattle.k_map_plans.proofs.Keeps.{keep-is, keep-may, keep-plan}
@@ -26,3 +27,6 @@ pub returns-clause-aside : goal.returns-clause-aside
 returns-clause-aside c =
     kept-aside c.args.tables.now c.switch.new.self c.requires.may.idle c.in_ok-map.ensures.back c.switch.ensures.back
     (ap (λ (x : TablesView). x.waiting) c.switch.ensures.switched) c.switch.ensures.free
+
+pub returns-clause-line : goal.returns-clause-line
+returns-clause-line c = omega (arith, c.switch.ensures.count, ap (λ (b : List Record). length b) c.requires.empty)

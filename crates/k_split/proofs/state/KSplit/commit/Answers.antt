@@ -1,60 +1,141 @@
-use Rattle.std.proofs.Common.{◌≡◌, true, false, sym, ◌∙◌, subst}
+use Rattle.std.proofs.Common.{[], ◌≡◌, true, false, refl, sym, ◌∙◌, subst}
 use Rattle.block_io.specs.pm_model.Powers.{is_on}
-use Rattle.k_split.proofs.ChangeLaws.{answer-committed, answer-uncommitted, awake, few-steps-none, lost-landed, planned-none, ready-recommitted}
-use Rattle.k_split.specs.Answers.{IsCommitAnswer, IsCommitPaid}
-use Rattle.k_split.specs.Order.{view_of}
+use Rattle.k_group_commit.specs.JoinLaws.{goes-committed, have-gathered, was-committed}
+use Rattle.k_split.proofs.ChangeLaws.{awake}
+use Rattle.k_split.proofs.Commits.{ahead, answer-done, answer-lost, outcome-done, outcome-lost, ready-committed}
+use Rattle.k_split.proofs.Steady.{steady-goes, steady-ready}
 use Rattle.k_split.proofs.state.KSplit.commit.Goals as goal
-use Rattle.k_split.proofs.state.KSplit.commit.Goals.{in-Ok, in-Err}
 
-pub land_plan-requires : goal.land_plan-requires
-land_plan-requires c =
+pub commit_group-requires : goal.commit_group-requires
+commit_group-requires c = record {
+  ready = λ given.
+      let k = c.self.inside in
+      let on : is_on c.args.power.now ≡ true = sym c.on.ensures ∙ c.if-not-on.false in
+      let is : k.lost ≡ false = awake k.tables k.group k.pm k.batched k.lost c.args.self.now c.args.power.now c.self.view_is c.requires.awake on in
+      let ready = c.self.invariant is in
+      let g = c.geometry.result.now in
+      let to = ahead k.tables k.group k.batch k.pm k.batched k.lost ready in (
+        ready.committed,
+        k.tables.volume,
+        have-gathered ready.committed k.tables k.tables k.group k.pm g c.geometry.ensures.numbers to,
+      );
+}
+
+pub invariant_of-self-in-Done : goal.invariant_of-self-in-Done
+invariant_of-self-in-Done c still =
     let k = c.self.inside in
     let on : is_on c.args.power.now ≡ true = sym c.on.ensures ∙ c.if-not-on.false in
-    let is : k.lost ≡ false = awake k.tables k.pm k.batched k.lost c.args.self.now c.args.power.now c.self.view_is c.requires.awake on in
-    (k.tables.volume, planned-none k.tables k.pm k.batched k.lost k.batch is c.self.invariant)
+    let is : k.lost ≡ false = awake k.tables k.group k.pm k.batched k.lost c.args.self.now c.args.power.now c.self.view_is c.requires.awake on in
+    let ready = c.self.invariant is in
+    let g = c.geometry.result.now in
+    let to = ahead k.tables k.group k.batch k.pm k.batched k.lost ready in
+    let goes =
+    goes-committed ready.committed k.tables k.tables k.group k.pm g c.geometry.ensures.numbers to c.commit_group.new.pm
+    c.commit_group.ensures.size c.commit_group.ensures.lent c.commit_group.ensures.each_image c.commit_group.ensures.others
+    in
+    let done = c.in-Done.is in
+    let was =
+    was-committed ready.committed k.tables k.tables k.group k.pm g c.geometry.ensures.numbers to c.settle.new.self c.commit_group.new.group c.commit_group.new.pm
+    c.settle.ensures.settled (c.commit_group.ensures.empty done) goes (c.commit_group.ensures.keeps done) (c.commit_group.ensures.done done)
+    in
+    ready-committed k.tables k.group k.batch k.pm k.batched k.lost ready c.settle.new.self c.commit_group.new.group c.commit_group.new.pm was
 
-pub invariant_of-self-2 : goal.invariant_of-self-2
-invariant_of-self-2 c off =
+pub returns-in-Done-clause-answer : goal.returns-in-Done-clause-answer
+returns-in-Done-clause-answer c =
     let k = c.self.inside in
     let on : is_on c.args.power.now ≡ true = sym c.on.ensures ∙ c.if-not-on.false in
-    let is : k.lost ≡ false = awake k.tables k.pm k.batched k.lost c.args.self.now c.args.power.now c.self.view_is c.requires.awake on in
-    ready-recommitted k.tables k.pm k.batched k.lost k.batch is c.self.invariant c.land_plan.new.pm c.args.power.now c.land_plan.new.power c.land_plan.new.lost c.land_plan.new.batch c.land_plan.result
-    (c.land_plan.ensures.landed k.tables.volume (planned-none k.tables k.pm k.batched k.lost k.batch is c.self.invariant)) c.land_plan.ensures.no_lines c.land_plan.ensures.noted off
+    let is : k.lost ≡ false = awake k.tables k.group k.pm k.batched k.lost c.args.self.now c.args.power.now c.self.view_is c.requires.awake on in
+    let ready = c.self.invariant is in
+    let g = c.geometry.result.now in
+    let to = ahead k.tables k.group k.batch k.pm k.batched k.lost ready in
+    let goes =
+    goes-committed ready.committed k.tables k.tables k.group k.pm g c.geometry.ensures.numbers to c.commit_group.new.pm
+    c.commit_group.ensures.size c.commit_group.ensures.lent c.commit_group.ensures.each_image c.commit_group.ensures.others
+    in
+    let done = c.in-Done.is in
+    let was =
+    was-committed ready.committed k.tables k.tables k.group k.pm g c.geometry.ensures.numbers to c.settle.new.self c.commit_group.new.group c.commit_group.new.pm
+    c.settle.ensures.settled (c.commit_group.ensures.empty done) goes (c.commit_group.ensures.keeps done) (c.commit_group.ensures.done done)
+    in
+    answer-done k.tables k.group k.batch k.pm k.batched k.lost ready c.settle.new.self c.commit_group.new.group c.commit_group.new.pm was c.args.self.now is c.self.view_is
 
-pub returns-clause-steps : goal.returns-clause-steps
-returns-clause-steps c =
+pub returns-in-Done-clause-outcome : goal.returns-in-Done-clause-outcome
+returns-in-Done-clause-outcome c =
     let k = c.self.inside in
     let on : is_on c.args.power.now ≡ true = sym c.on.ensures ∙ c.if-not-on.false in
-    let is : k.lost ≡ false = awake k.tables k.pm k.batched k.lost c.args.self.now c.args.power.now c.self.view_is c.requires.awake on in
-    few-steps-none k.tables k.pm k.batched k.lost k.batch is c.self.invariant c.args.power.now c.land_plan.new.power c.land_plan.ensures.steps
+    let is : k.lost ≡ false = awake k.tables k.group k.pm k.batched k.lost c.args.self.now c.args.power.now c.self.view_is c.requires.awake on in
+    let ready = c.self.invariant is in
+    let g = c.geometry.result.now in
+    let to = ahead k.tables k.group k.batch k.pm k.batched k.lost ready in
+    let goes =
+    goes-committed ready.committed k.tables k.tables k.group k.pm g c.geometry.ensures.numbers to c.commit_group.new.pm
+    c.commit_group.ensures.size c.commit_group.ensures.lent c.commit_group.ensures.each_image c.commit_group.ensures.others
+    in
+    let done = c.in-Done.is in
+    let was =
+    was-committed ready.committed k.tables k.tables k.group k.pm g c.geometry.ensures.numbers to c.settle.new.self c.commit_group.new.group c.commit_group.new.pm
+    c.settle.ensures.settled (c.commit_group.ensures.empty done) goes (c.commit_group.ensures.keeps done) (c.commit_group.ensures.done done)
+    in
+    outcome-done k.tables k.group k.batch k.pm k.batched k.lost ready c.settle.new.self c.commit_group.new.group c.commit_group.new.pm was c.args.self.now c.self.view_is
 
-pub returns-clause-paid : goal.returns-clause-paid
-returns-clause-paid c =
+pub returns-in-PowerLost-clause-answer : goal.returns-in-PowerLost-clause-answer
+returns-in-PowerLost-clause-answer c =
     let k = c.self.inside in
     let on : is_on c.args.power.now ≡ true = sym c.on.ensures ∙ c.if-not-on.false in
-    let is : k.lost ≡ false = awake k.tables k.pm k.batched k.lost c.args.self.now c.args.power.now c.self.view_is c.requires.awake on in
-    elim c.match-land_plan.branch [
-      | in-Ok w ↦ subst (IsCommitPaid c.land_plan.new.power) (sym w.result-is) (w.in-Ok.ensures.landed k.tables.volume (planned-none k.tables k.pm k.batched k.lost k.batch is c.self.invariant)).on
-      | in-Err w ↦
-          subst (IsCommitPaid c.land_plan.new.power) (sym w.result-is)
-          (lost-landed k.tables.volume k.tables.volume k.batch k.pm c.land_plan.new.pm c.args.power.now c.land_plan.new.power _
-          (w.in-Err.ensures.landed k.tables.volume (planned-none k.tables k.pm k.batched k.lost k.batch is c.self.invariant))).off
-    ]
+    let is : k.lost ≡ false = awake k.tables k.group k.pm k.batched k.lost c.args.self.now c.args.power.now c.self.view_is c.requires.awake on in
+    let ready = c.self.invariant is in
+    let g = c.geometry.result.now in
+    let to = ahead k.tables k.group k.batch k.pm k.batched k.lost ready in
+    let goes =
+    goes-committed ready.committed k.tables k.tables k.group k.pm g c.geometry.ensures.numbers to c.commit_group.new.pm
+    c.commit_group.ensures.size c.commit_group.ensures.lent c.commit_group.ensures.each_image c.commit_group.ensures.others
+    in
+    answer-lost k.tables k.group k.batch k.pm k.batched k.lost ready c.args.self.now c.commit_group.new.pm c.commit_group.new.group c.self.view_is goes
 
-pub returns-clause-answer : goal.returns-clause-answer
-returns-clause-answer c =
+pub returns-in-PowerLost-clause-outcome : goal.returns-in-PowerLost-clause-outcome
+returns-in-PowerLost-clause-outcome c =
     let k = c.self.inside in
     let on : is_on c.args.power.now ≡ true = sym c.on.ensures ∙ c.if-not-on.false in
-    let is : k.lost ≡ false = awake k.tables k.pm k.batched k.lost c.args.self.now c.args.power.now c.self.view_is c.requires.awake on in
-    elim c.match-land_plan.branch [
-      | in-Ok w ↦
-          subst (IsCommitAnswer c.args.self.now (view_of k.tables c.land_plan.new.pm k.batched c.land_plan.new.lost)) (sym w.result-is)
-          (answer-committed k.tables k.pm k.batched k.lost k.batch is c.self.invariant c.args.self.now c.land_plan.new.pm c.args.power.now c.land_plan.new.power c.land_plan.new.lost
-          w.in-Ok.ensures.same c.self.view_is (w.in-Ok.ensures.landed k.tables.volume (planned-none k.tables k.pm k.batched k.lost k.batch is c.self.invariant)))
-      | in-Err w ↦
-          subst (IsCommitAnswer c.args.self.now (view_of k.tables c.land_plan.new.pm k.batched c.land_plan.new.lost)) (sym w.result-is)
-          (answer-uncommitted k.tables k.pm k.batched k.lost k.batch is c.self.invariant c.args.self.now c.land_plan.new.pm c.land_plan.new.power c.land_plan.new.lost
-          w.in-Err.ensures.noted c.self.view_is
-          (lost-landed k.tables.volume k.tables.volume k.batch k.pm c.land_plan.new.pm c.args.power.now c.land_plan.new.power _
-          (w.in-Err.ensures.landed k.tables.volume (planned-none k.tables k.pm k.batched k.lost k.batch is c.self.invariant))))
-    ]
+    let is : k.lost ≡ false = awake k.tables k.group k.pm k.batched k.lost c.args.self.now c.args.power.now c.self.view_is c.requires.awake on in
+    let ready = c.self.invariant is in
+    let g = c.geometry.result.now in
+    let to = ahead k.tables k.group k.batch k.pm k.batched k.lost ready in
+    let goes =
+    goes-committed ready.committed k.tables k.tables k.group k.pm g c.geometry.ensures.numbers to c.commit_group.new.pm
+    c.commit_group.ensures.size c.commit_group.ensures.lent c.commit_group.ensures.each_image c.commit_group.ensures.others
+    in
+    outcome-lost k.tables k.group k.batch k.pm k.batched k.lost ready c.args.self.now c.commit_group.new.pm c.commit_group.new.group c.self.view_is goes
+
+pub invariant_of-self-inside-in-Done : goal.invariant_of-self-inside-in-Done
+invariant_of-self-inside-in-Done c =
+    let k = c.self.inside in
+    let on : is_on c.args.power.now ≡ true = sym c.on.ensures ∙ c.if-not-on.false in
+    let is : k.lost ≡ false = awake k.tables k.group k.pm k.batched k.lost c.args.self.now c.args.power.now c.self.view_is c.requires.awake on in
+    let ready = c.self.invariant is in
+    let g = c.geometry.result.now in
+    let to = ahead k.tables k.group k.batch k.pm k.batched k.lost ready in
+    let goes =
+    goes-committed ready.committed k.tables k.tables k.group k.pm g c.geometry.ensures.numbers to c.commit_group.new.pm
+    c.commit_group.ensures.size c.commit_group.ensures.lent c.commit_group.ensures.each_image c.commit_group.ensures.others
+    in
+    let done = c.in-Done.is in
+    let was =
+    was-committed ready.committed k.tables k.tables k.group k.pm g c.geometry.ensures.numbers to c.settle.new.self c.commit_group.new.group c.commit_group.new.pm
+    c.settle.ensures.settled (c.commit_group.ensures.empty done) goes (c.commit_group.ensures.keeps done) (c.commit_group.ensures.done done)
+    in
+    let now = ready-committed k.tables k.group k.batch k.pm k.batched k.lost ready c.settle.new.self c.commit_group.new.group c.commit_group.new.pm was in
+    (now.opened.idle, (λ batched. steady-ready c.settle.new.self c.commit_group.new.group k.batch c.commit_group.new.pm k.batched now, tt))
+
+pub invariant_of-self-inside-in-PowerLost : goal.invariant_of-self-inside-in-PowerLost
+invariant_of-self-inside-in-PowerLost c =
+    let k = c.self.inside in
+    let on : is_on c.args.power.now ≡ true = sym c.on.ensures ∙ c.if-not-on.false in
+    let is : k.lost ≡ false = awake k.tables k.group k.pm k.batched k.lost c.args.self.now c.args.power.now c.self.view_is c.requires.awake on in
+    let ready = c.self.invariant is in
+    let g = c.geometry.result.now in
+    let to = ahead k.tables k.group k.batch k.pm k.batched k.lost ready in
+    let goes =
+    goes-committed ready.committed k.tables k.tables k.group k.pm g c.geometry.ensures.numbers to c.commit_group.new.pm
+    c.commit_group.ensures.size c.commit_group.ensures.lent c.commit_group.ensures.each_image c.commit_group.ensures.others
+    in
+    (k.none_aside, (λ batched. steady-goes k.tables k.group k.batch k.pm k.batched ready [] c.commit_group.new.pm goes, tt))

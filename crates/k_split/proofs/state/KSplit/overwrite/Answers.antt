@@ -5,7 +5,7 @@ use Rattle.block_io.specs.image_model.Volume.{extents}
 use Rattle.block_io.specs.pm_model.Cells.{cell, Settles}
 use Rattle.block_io.specs.pm_model.Images.{Follows}
 use Rattle.k_tables.specs.k_split_model.View.{View}
-use Rattle.k_split.proofs.ByteLaws.{overwrite-cut, overwrite-done, overwrites, ready-over}
+use Rattle.k_split.proofs.ByteLaws.{overwrite-cut, overwrite-done, ready-over, steady-over}
 use Rattle.k_split.proofs.state.KSplit.overwrite.Goals as goal
 
 pub write_bytes-requires-clause-ready : goal.write_bytes-requires-clause-ready
@@ -19,13 +19,11 @@ invariant_of-self c off =
     let k = c.self.inside in
     let bytes = c.args.bytes.now in
     let e = c.write_bytes.new.pm in
-    let ready = c.self.invariant off in
     let below = subst (λ (x : View). c.args.ino < length x.volume.inodes) (sym c.self.view_is) c.requires.below in
     let on = sym c.on.ensures ∙ c.if-on.true in
-    ready-over k.tables k.pm e k.batched k.lost k.lost k.batch c.args.ino c.args.first bytes ready below
-    (overwrites k.tables.volume k.pm e c.args.ino c.args.first bytes ready.order.whole ready.order.stands below c.write_bytes.ensures.size c.write_bytes.ensures.lent
+    ready-over k.tables k.group k.batch k.pm k.batched (c.self.invariant off) c.args.ino c.args.first bytes below e c.write_bytes.ensures.size c.write_bytes.ensures.lent
     (subst (λ (es : List Extent). Follows (IsOverwritten es c.args.first bytes) k.pm e) c.in-Some.ensures.map c.write_bytes.ensures.each_image)
-    (subst (λ (es : List Extent). (i : ℕ) → IsBesideBlocks es c.args.first (length bytes) i → Settles (cell k.pm i) (cell e i)) c.in-Some.ensures.map c.write_bytes.ensures.others))
+    (subst (λ (es : List Extent). (i : ℕ) → IsBesideBlocks es c.args.first (length bytes) i → Settles (cell k.pm i) (cell e i)) c.in-Some.ensures.map c.write_bytes.ensures.others)
     (c.write_bytes.ensures.keeps on)
 
 pub returns-then-on-clause-answer : goal.returns-then-on-clause-answer
@@ -34,13 +32,12 @@ returns-then-on-clause-answer c =
     let bytes = c.args.bytes.now in
     let e = c.write_bytes.new.pm in
     let is : k.lost ≡ false = ap (λ (x : View). x.lost) c.self.view_is ∙ c.requires.on in
-    let ready = c.self.invariant is in
     let below = subst (λ (x : View). c.args.ino < length x.volume.inodes) (sym c.self.view_is) c.requires.below in
     let on = sym c.on.ensures ∙ c.if-on.true in
-    overwrite-done k.tables k.pm e k.batched k.lost k.batch c.args.self.now c.args.ino c.args.first bytes is c.self.view_is ready below
-    (overwrites k.tables.volume k.pm e c.args.ino c.args.first bytes ready.order.whole ready.order.stands below c.write_bytes.ensures.size c.write_bytes.ensures.lent
+    overwrite-done k.tables k.group k.batch k.pm k.batched (c.self.invariant is) c.args.ino c.args.first bytes below e c.write_bytes.ensures.size c.write_bytes.ensures.lent
     (subst (λ (es : List Extent). Follows (IsOverwritten es c.args.first bytes) k.pm e) c.in-Some.ensures.map c.write_bytes.ensures.each_image)
-    (subst (λ (es : List Extent). (i : ℕ) → IsBesideBlocks es c.args.first (length bytes) i → Settles (cell k.pm i) (cell e i)) c.in-Some.ensures.map c.write_bytes.ensures.others))
+    (subst (λ (es : List Extent). (i : ℕ) → IsBesideBlocks es c.args.first (length bytes) i → Settles (cell k.pm i) (cell e i)) c.in-Some.ensures.map c.write_bytes.ensures.others)
+    c.args.self.now k.lost is c.self.view_is
     (subst (λ (es : List Extent). Follows (IsOverwrittenWhole es c.args.first bytes) k.pm e) c.in-Some.ensures.map (c.write_bytes.ensures.durable on))
     (c.write_bytes.ensures.keeps on)
 
@@ -50,15 +47,46 @@ returns-clause-answer c =
     let bytes = c.args.bytes.now in
     let e = c.write_bytes.new.pm in
     let is : k.lost ≡ false = ap (λ (x : View). x.lost) c.self.view_is ∙ c.requires.on in
-    let ready = c.self.invariant is in
     let below = subst (λ (x : View). c.args.ino < length x.volume.inodes) (sym c.self.view_is) c.requires.below in
-    inr (overwrite-cut k.tables k.pm e k.batched k.lost c.args.self.now c.args.ino c.args.first bytes c.self.view_is
-    (overwrites k.tables.volume k.pm e c.args.ino c.args.first bytes ready.order.whole ready.order.stands below c.write_bytes.ensures.size c.write_bytes.ensures.lent
+    inr (overwrite-cut k.tables k.group k.batch k.pm k.batched (c.self.invariant is) c.args.ino c.args.first bytes below e c.write_bytes.ensures.size c.write_bytes.ensures.lent
     (subst (λ (es : List Extent). Follows (IsOverwritten es c.args.first bytes) k.pm e) c.in-Some.ensures.map c.write_bytes.ensures.each_image)
-    (subst (λ (es : List Extent). (i : ℕ) → IsBesideBlocks es c.args.first (length bytes) i → Settles (cell k.pm i) (cell e i)) c.in-Some.ensures.map c.write_bytes.ensures.others)))
+    (subst (λ (es : List Extent). (i : ℕ) → IsBesideBlocks es c.args.first (length bytes) i → Settles (cell k.pm i) (cell e i)) c.in-Some.ensures.map c.write_bytes.ensures.others)
+    c.args.self.now k.lost c.self.view_is)
 
 pub returns-then-on-clause-took : goal.returns-then-on-clause-took
 returns-then-on-clause-took c = c.write_bytes.ensures.took
 
 pub returns-clause-took : goal.returns-clause-took
 returns-clause-took c on some = (let never : true ≡ false = sym on ∙ (sym c.on.ensures ∙ c.if-on.false) in cc)
+
+pub invariant_of-self-inside : goal.invariant_of-self-inside
+invariant_of-self-inside c =
+    let k = c.self.inside in
+    let bytes = c.args.bytes.now in
+    let e = c.write_bytes.new.pm in
+    let is : k.lost ≡ false = ap (λ (x : View). x.lost) c.self.view_is ∙ c.requires.on in
+    let below = subst (λ (x : View). c.args.ino < length x.volume.inodes) (sym c.self.view_is) c.requires.below in (
+      k.none_aside,
+      (
+        λ batched. steady-over k.tables k.group k.batch k.pm k.batched (c.self.invariant is) c.args.ino c.args.first bytes below e c.write_bytes.ensures.size c.write_bytes.ensures.lent
+            (subst (λ (es : List Extent). Follows (IsOverwritten es c.args.first bytes) k.pm e) c.in-Some.ensures.map c.write_bytes.ensures.each_image)
+            (subst (λ (es : List Extent). (i : ℕ) → IsBesideBlocks es c.args.first (length bytes) i → Settles (cell k.pm i) (cell e i)) c.in-Some.ensures.map c.write_bytes.ensures.others),
+        tt,
+      ),
+    )
+
+pub invariant_of-self-inside-2 : goal.invariant_of-self-inside-2
+invariant_of-self-inside-2 c =
+    let k = c.self.inside in
+    let bytes = c.args.bytes.now in
+    let e = c.write_bytes.new.pm in
+    let is : k.lost ≡ false = ap (λ (x : View). x.lost) c.self.view_is ∙ c.requires.on in
+    let below = subst (λ (x : View). c.args.ino < length x.volume.inodes) (sym c.self.view_is) c.requires.below in (
+      k.none_aside,
+      (
+        λ batched. steady-over k.tables k.group k.batch k.pm k.batched (c.self.invariant is) c.args.ino c.args.first bytes below e c.write_bytes.ensures.size c.write_bytes.ensures.lent
+            (subst (λ (es : List Extent). Follows (IsOverwritten es c.args.first bytes) k.pm e) c.in-Some.ensures.map c.write_bytes.ensures.each_image)
+            (subst (λ (es : List Extent). (i : ℕ) → IsBesideBlocks es c.args.first (length bytes) i → Settles (cell k.pm i) (cell e i)) c.in-Some.ensures.map c.write_bytes.ensures.others),
+        tt,
+      ),
+    )

@@ -1,128 +1,151 @@
-use Rattle.std.proofs.Common.{◌≡◌, [], ◌/◌, true, false, List, sym, ◌∙◌, ap, inl, subst}
-use Rattle.block_io.specs.pm_model.declared.Cell.{Cell}
-use Rattle.block_io.specs.pm_model.Frames.{KeepsSingle}
+use Rattle.std.proofs.Common.{[], ◌≡◌, ◌∷◌, ◌++◌, ◌/◌, ◌<◌, ℕ, true, false, List, Option, None, refl, sym, ◌∙◌, ap, arith, inl, inr, subst}
 use Rattle.block_io.specs.pm_model.Powers.{is_on}
-use Rattle.k_map_plans.specs.k_plans.LandingsPlans.{NewChain, blocks_of}
-use Rattle.k_map_plans.specs.k_plans.WrittenLaws.{blocks_of-one}
-use Rattle.k_map_plans.specs.k_plans.Switching.{IsMapPlan}
+use Rattle.block_io.specs.image_model.Volume.{extents, inode}
 use Rattle.k_map_plans.specs.k_plans.Free.{is_free_block}
+use Rattle.k_map_plans.specs.k_plans.LandingsPlans.{blocks_of, NewChain}
 use Rattle.k_map_plans.specs.k_plans.View.{TablesView}
 use Rattle.k_tables.specs.k_split_model.View.{View}
-use Rattle.block_io.specs.image_model.Volume.{extents, inode, Volume}
+use Rattle.k_split.specs.MapLanded.{IsMapPlanOn}
+use Rattle.k_split.proofs.ChangeLaws.{awake, ready-none, ready-none-ok, ready-or-lost}
+use Rattle.k_split.proofs.MapAnswers.{map-paid}
+use Rattle.k_split.proofs.MapJoined.{answer-maps, gather-maps}
+use Rattle.k_split.proofs.Released.{none_there}
 use Rattle.block_io.specs.k_split_model.MapChangesChanges.{aged, IsPreallocated}
-use Rattle.k_split.proofs.ChangeLaws.{awake}
-use Rattle.k_split.proofs.MapAnswers.{map-answer, map-paid, map-planned, map-ready, filled-unstaged, unstaged-from}
-use Rattle.k_split.proofs.Released.{IsReleasedOne, made-released, one-released}
-use Rattle.k_split.specs.MapChanges.{IsMapPlanned, IsPreallocatedWith}
-use Rattle.k_split.specs.Order.{IsUnstagedSingle}
+use Rattle.k_group_commit.specs.MapJoins.{preallocated-joins}
+use Rattle.k_map_plans.specs.Plans.{IsStagingFile}
+use Rattle.k_map_plans.specs.k_plans.WrittenLaws.{blocks_of-one}
+use Rattle.k_split.specs.MapChanges.{IsPreallocatedWith}
+use Rattle.k_split.proofs.MapAnswers.{filled-unstaged, unstaged-from}
 use Rattle.k_split.proofs.state.KSplit.preallocate.Goals as goal
 
-pub land_maps_plan-requires : goal.land_maps_plan-requires
-land_maps_plan-requires c =
+pub land_maps_change-requires-clause-plan : goal.land_maps_change-requires-clause-plan
+land_maps_change-requires-clause-plan c =
     let k = c.self.inside in
-    let u = c.release.new.self in
     let on : is_on c.args.power.now ≡ true = sym c.on.ensures ∙ c.if-not-on.false in
-    let is : k.lost ≡ false = awake k.tables k.pm k.batched k.lost c.args.self.now c.args.power.now c.self.view_is c.requires.awake on in
-    let one : IsReleasedOne c.args.staging k.tables u c.plan_preallocate.new.batch c.in-Ok.map =
-    one-released c.args.staging k.tables c.plan_preallocate.new.tables u c.plan_preallocate.new.batch c.in-Ok.map c.in-Ok.ensures.answer.1 c.release.ensures.released
+    let is : k.lost ≡ false = awake k.tables k.group k.pm k.batched k.lost c.args.self.now c.args.power.now c.self.view_is c.requires.awake on in
+    let ready = c.self.invariant is in
+    let file : IsStagingFile c.args.staging k.tables.volume = subst (λ (x : View). x.lost ≡ false → IsStagingFile c.args.staging x.volume) (sym c.self.view_is) c.requires.staging is in
+    let bare : extents k.tables.volume c.args.staging ≡ [] = subst (λ (x : View). x.lost ≡ false → extents x.volume c.args.staging ≡ []) (sym c.self.view_is) c.requires.bare is in
+    let planned-one = c.in-Ok.ensures.answer in
+    let planned : IsMapPlanOn k.tables c.plan_preallocate.new.tables c.from_ref.result.now k.group c.plan_preallocate.new.batch k.pm k.batched =
+    subst (λ (ns : List NewChain). IsMapPlanOn k.tables c.plan_preallocate.new.tables ns k.group c.plan_preallocate.new.batch k.pm k.batched) (sym c.from_ref.ensures.value) (record {
+      ready = ready-none k.tables k.group k.batch k.pm k.batched ready;
+      plan = planned-one.1.plan;
+      joining = preallocated-joins k.tables c.plan_preallocate.new.tables c.args.staging c.plan_preallocate.new.batch ready.opened.whole file.below c.args.count c.in-Ok.map planned-one.0 planned-one.1;
+      keeps = λ e singles. unstaged-from k.tables.volume c.plan_preallocate.new.tables.volume k.pm e planned-one.1.plan.geometry singles ready.unstaged (λ i free.
+          inl (filled-unstaged k.tables.volume c.plan_preallocate.new.tables.volume c.args.staging (aged (inode k.tables.volume c.args.staging)) planned-one.0.blocks planned-one.0.es
+          planned-one.0.is_preallocated bare (i / 512) free));
+    })
     in
-    let made = made-released (λ (x : TablesView) (w : Volume). IsPreallocated (is_free_block x) c.args.staging c.args.count x.volume w) k.tables c.plan_preallocate.new.tables u (c.self.invariant is).none_aside
-    c.release.ensures.released c.in-Ok.ensures.answer.0
-    in
-    let plan : IsMapPlan c.from_ref.result.now k.tables.volume u.volume c.plan_preallocate.new.batch =
-    subst (λ (ns : List NewChain). IsMapPlan ns k.tables.volume u.volume c.plan_preallocate.new.batch) (sym c.from_ref.ensures.value) one.plan
-    in
-    let ready : IsMapPlanned c.from_ref.result.now k.tables.volume u.volume c.plan_preallocate.new.batch k.pm =
-    map-planned k.tables u k.pm k.batched k.lost k.batch c.plan_preallocate.new.batch c.from_ref.result.now is c.self.invariant plan
-    in
-    (k.tables.volume, ready)
+    (k.tables, planned)
 
 pub invariant_of-self-2 : goal.invariant_of-self-2
-invariant_of-self-2 c off =
+invariant_of-self-2 c still =
     let k = c.self.inside in
-    let u = c.release.new.self in
     let on : is_on c.args.power.now ≡ true = sym c.on.ensures ∙ c.if-not-on.false in
-    let is : k.lost ≡ false = awake k.tables k.pm k.batched k.lost c.args.self.now c.args.power.now c.self.view_is c.requires.awake on in
-    let one : IsReleasedOne c.args.staging k.tables u c.plan_preallocate.new.batch c.in-Ok.map =
-    one-released c.args.staging k.tables c.plan_preallocate.new.tables u c.plan_preallocate.new.batch c.in-Ok.map c.in-Ok.ensures.answer.1 c.release.ensures.released
+    let is : k.lost ≡ false = awake k.tables k.group k.pm k.batched k.lost c.args.self.now c.args.power.now c.self.view_is c.requires.awake on in
+    let ready = c.self.invariant is in
+    let file : IsStagingFile c.args.staging k.tables.volume = subst (λ (x : View). x.lost ≡ false → IsStagingFile c.args.staging x.volume) (sym c.self.view_is) c.requires.staging is in
+    let bare : extents k.tables.volume c.args.staging ≡ [] = subst (λ (x : View). x.lost ≡ false → extents x.volume c.args.staging ≡ []) (sym c.self.view_is) c.requires.bare is in
+    let planned-one = c.in-Ok.ensures.answer in
+    let n = c.land_maps_change.new in
+    let planned : IsMapPlanOn k.tables c.plan_preallocate.new.tables c.from_ref.result.now k.group c.plan_preallocate.new.batch k.pm k.batched =
+    subst (λ (ns : List NewChain). IsMapPlanOn k.tables c.plan_preallocate.new.tables ns k.group c.plan_preallocate.new.batch k.pm k.batched) (sym c.from_ref.ensures.value) (record {
+      ready = ready-none k.tables k.group k.batch k.pm k.batched ready;
+      plan = planned-one.1.plan;
+      joining = preallocated-joins k.tables c.plan_preallocate.new.tables c.args.staging c.plan_preallocate.new.batch ready.opened.whole file.below c.args.count c.in-Ok.map planned-one.0 planned-one.1;
+      keeps = λ e singles. unstaged-from k.tables.volume c.plan_preallocate.new.tables.volume k.pm e planned-one.1.plan.geometry singles ready.unstaged (λ i free.
+          inl (filled-unstaged k.tables.volume c.plan_preallocate.new.tables.volume c.args.staging (aged (inode k.tables.volume c.args.staging)) planned-one.0.blocks planned-one.0.es
+          planned-one.0.is_preallocated bare (i / 512) free));
+    })
     in
-    let made = made-released (λ (x : TablesView) (w : Volume). IsPreallocated (is_free_block x) c.args.staging c.args.count x.volume w) k.tables c.plan_preallocate.new.tables u (c.self.invariant is).none_aside
-    c.release.ensures.released c.in-Ok.ensures.answer.0
-    in
-    let plan : IsMapPlan c.from_ref.result.now k.tables.volume u.volume c.plan_preallocate.new.batch =
-    subst (λ (ns : List NewChain). IsMapPlan ns k.tables.volume u.volume c.plan_preallocate.new.batch) (sym c.from_ref.ensures.value) one.plan
-    in
-    let ready : IsMapPlanned c.from_ref.result.now k.tables.volume u.volume c.plan_preallocate.new.batch k.pm =
-    map-planned k.tables u k.pm k.batched k.lost k.batch c.plan_preallocate.new.batch c.from_ref.result.now is c.self.invariant plan
-    in
-    let bare : extents k.tables.volume c.args.staging ≡ [] =
-    subst (λ (x : View). x.lost ≡ false → extents x.volume c.args.staging ≡ []) (sym c.self.view_is) c.requires.bare is
-    in
-    let order = (c.self.invariant is).order in
-    let keeps : (e : List Cell) → KeepsSingle k.pm e → IsUnstagedSingle u.volume e =
-    λ e singles.
-    unstaged-from k.tables.volume u.volume k.pm e plan.geometry singles order.unstaged (λ i free.
-    inl (filled-unstaged k.tables.volume u.volume c.args.staging (aged (inode k.tables.volume c.args.staging)) made.blocks made.es
-    made.is_preallocated bare (i / 512) free))
-    in
-    let landed = c.land_maps_plan.ensures.landed k.tables.volume ready in
-    map-ready k.tables u k.pm k.batched k.lost k.batch c.plan_preallocate.new.batch c.from_ref.result.now is c.self.invariant plan one.waiting one.none_aside keeps
-    (blocks_of c.from_ref.result.now)
-    c.land_maps_plan.new.pm c.args.power.now c.land_maps_plan.new.power c.land_maps_plan.new.lost c.land_maps_plan.new.batch c.land_maps_plan.result landed
-    c.land_maps_plan.ensures.no_lines c.land_maps_plan.ensures.noted off
+    ready-or-lost n.tables n.group n.batch n.pm k.batched n.lost c.land_maps_change.result (c.land_maps_change.ensures.ready k.tables planned)
+    c.land_maps_change.ensures.noted still
 
 pub returns-clause-paid : goal.returns-clause-paid
-returns-clause-paid c =
+returns-clause-paid c unbatched =
     let k = c.self.inside in
-    let u = c.release.new.self in
     let on : is_on c.args.power.now ≡ true = sym c.on.ensures ∙ c.if-not-on.false in
-    let is : k.lost ≡ false = awake k.tables k.pm k.batched k.lost c.args.self.now c.args.power.now c.self.view_is c.requires.awake on in
-    let one : IsReleasedOne c.args.staging k.tables u c.plan_preallocate.new.batch c.in-Ok.map =
-    one-released c.args.staging k.tables c.plan_preallocate.new.tables u c.plan_preallocate.new.batch c.in-Ok.map c.in-Ok.ensures.answer.1 c.release.ensures.released
+    let is : k.lost ≡ false = awake k.tables k.group k.pm k.batched k.lost c.args.self.now c.args.power.now c.self.view_is c.requires.awake on in
+    let ready = c.self.invariant is in
+    let file : IsStagingFile c.args.staging k.tables.volume = subst (λ (x : View). x.lost ≡ false → IsStagingFile c.args.staging x.volume) (sym c.self.view_is) c.requires.staging is in
+    let bare : extents k.tables.volume c.args.staging ≡ [] = subst (λ (x : View). x.lost ≡ false → extents x.volume c.args.staging ≡ []) (sym c.self.view_is) c.requires.bare is in
+    let planned-one = c.in-Ok.ensures.answer in
+    let n = c.land_maps_change.new in
+    let off : k.batched ≡ false = ap (λ (x : View). x.batched) c.self.view_is ∙ unbatched in
+    let planned : IsMapPlanOn k.tables c.plan_preallocate.new.tables c.from_ref.result.now k.group c.plan_preallocate.new.batch k.pm k.batched =
+    subst (λ (ns : List NewChain). IsMapPlanOn k.tables c.plan_preallocate.new.tables ns k.group c.plan_preallocate.new.batch k.pm k.batched) (sym c.from_ref.ensures.value) (record {
+      ready = ready-none k.tables k.group k.batch k.pm k.batched ready;
+      plan = planned-one.1.plan;
+      joining = preallocated-joins k.tables c.plan_preallocate.new.tables c.args.staging c.plan_preallocate.new.batch ready.opened.whole file.below c.args.count c.in-Ok.map planned-one.0 planned-one.1;
+      keeps = λ e singles. unstaged-from k.tables.volume c.plan_preallocate.new.tables.volume k.pm e planned-one.1.plan.geometry singles ready.unstaged (λ i free.
+          inl (filled-unstaged k.tables.volume c.plan_preallocate.new.tables.volume c.args.staging (aged (inode k.tables.volume c.args.staging)) planned-one.0.blocks planned-one.0.es
+          planned-one.0.is_preallocated bare (i / 512) free));
+    })
     in
-    let made = made-released (λ (x : TablesView) (w : Volume). IsPreallocated (is_free_block x) c.args.staging c.args.count x.volume w) k.tables c.plan_preallocate.new.tables u (c.self.invariant is).none_aside
-    c.release.ensures.released c.in-Ok.ensures.answer.0
-    in
-    let plan : IsMapPlan c.from_ref.result.now k.tables.volume u.volume c.plan_preallocate.new.batch =
-    subst (λ (ns : List NewChain). IsMapPlan ns k.tables.volume u.volume c.plan_preallocate.new.batch) (sym c.from_ref.ensures.value) one.plan
-    in
-    let ready : IsMapPlanned c.from_ref.result.now k.tables.volume u.volume c.plan_preallocate.new.batch k.pm =
-    map-planned k.tables u k.pm k.batched k.lost k.batch c.plan_preallocate.new.batch c.from_ref.result.now is c.self.invariant plan
-    in
-    let landed = c.land_maps_plan.ensures.landed k.tables.volume ready in
-    map-paid (blocks_of c.from_ref.result.now) k.tables.volume u.volume k.pm c.land_maps_plan.new.pm c.args.power.now c.land_maps_plan.new.power c.land_maps_plan.result landed
+    map-paid (blocks_of c.from_ref.result.now) k.tables.volume c.plan_preallocate.new.tables.volume k.pm n.pm c.args.power.now n.power c.land_maps_change.result
+    (c.land_maps_change.ensures.landed k.tables planned off)
 
 pub returns-clause-answer : goal.returns-clause-answer
-returns-clause-answer c off =
+returns-clause-answer c unbatched =
     let k = c.self.inside in
-    let u = c.release.new.self in
     let on : is_on c.args.power.now ≡ true = sym c.on.ensures ∙ c.if-not-on.false in
-    let is : k.lost ≡ false = awake k.tables k.pm k.batched k.lost c.args.self.now c.args.power.now c.self.view_is c.requires.awake on in
-    let one : IsReleasedOne c.args.staging k.tables u c.plan_preallocate.new.batch c.in-Ok.map =
-    one-released c.args.staging k.tables c.plan_preallocate.new.tables u c.plan_preallocate.new.batch c.in-Ok.map c.in-Ok.ensures.answer.1 c.release.ensures.released
+    let is : k.lost ≡ false = awake k.tables k.group k.pm k.batched k.lost c.args.self.now c.args.power.now c.self.view_is c.requires.awake on in
+    let ready = c.self.invariant is in
+    let file : IsStagingFile c.args.staging k.tables.volume = subst (λ (x : View). x.lost ≡ false → IsStagingFile c.args.staging x.volume) (sym c.self.view_is) c.requires.staging is in
+    let bare : extents k.tables.volume c.args.staging ≡ [] = subst (λ (x : View). x.lost ≡ false → extents x.volume c.args.staging ≡ []) (sym c.self.view_is) c.requires.bare is in
+    let planned-one = c.in-Ok.ensures.answer in
+    let n = c.land_maps_change.new in
+    let off : k.batched ≡ false = ap (λ (x : View). x.batched) c.self.view_is ∙ unbatched in
+    let planned : IsMapPlanOn k.tables c.plan_preallocate.new.tables c.from_ref.result.now k.group c.plan_preallocate.new.batch k.pm k.batched =
+    subst (λ (ns : List NewChain). IsMapPlanOn k.tables c.plan_preallocate.new.tables ns k.group c.plan_preallocate.new.batch k.pm k.batched) (sym c.from_ref.ensures.value) (record {
+      ready = ready-none k.tables k.group k.batch k.pm k.batched ready;
+      plan = planned-one.1.plan;
+      joining = preallocated-joins k.tables c.plan_preallocate.new.tables c.args.staging c.plan_preallocate.new.batch ready.opened.whole file.below c.args.count c.in-Ok.map planned-one.0 planned-one.1;
+      keeps = λ e singles. unstaged-from k.tables.volume c.plan_preallocate.new.tables.volume k.pm e planned-one.1.plan.geometry singles ready.unstaged (λ i free.
+          inl (filled-unstaged k.tables.volume c.plan_preallocate.new.tables.volume c.args.staging (aged (inode k.tables.volume c.args.staging)) planned-one.0.blocks planned-one.0.es
+          planned-one.0.is_preallocated bare (i / 512) free));
+    })
     in
-    let made = made-released (λ (x : TablesView) (w : Volume). IsPreallocated (is_free_block x) c.args.staging c.args.count x.volume w) k.tables c.plan_preallocate.new.tables u (c.self.invariant is).none_aside
-    c.release.ensures.released c.in-Ok.ensures.answer.0
+    answer-maps k.tables c.plan_preallocate.new.tables c.from_ref.result.now k.group c.plan_preallocate.new.batch k.pm k.batched k.lost is planned off n.tables n.group n.pm n.lost
+    c.land_maps_change.ensures.volume (blocks_of c.from_ref.result.now) (λ x w blocks. IsPreallocatedWith c.args.staging c.args.count x w blocks) c.args.self.now c.args.power.now n.power
+    c.land_maps_change.result c.self.view_is c.land_maps_change.ensures.same c.land_maps_change.ensures.noted
+    (ready-none-ok n.tables n.group n.batch n.pm k.batched c.land_maps_change.result (c.land_maps_change.ensures.ready k.tables planned))
+    (record {
+      preallocated = subst (λ (x : TablesView). IsPreallocated (is_free_block x) c.args.staging c.args.count k.tables.volume c.plan_preallocate.new.tables.volume)
+          (none_there k.tables ready.opened.idle) planned-one.0;
+      written = ap blocks_of c.from_ref.ensures.value ∙ blocks_of-one c.in-Ok.map ∙ planned-one.1.chain_is;
+    })
+    (c.land_maps_change.ensures.landed k.tables planned off)
+
+pub returns-clause-gathers : goal.returns-clause-gathers
+returns-clause-gathers c batched =
+    let k = c.self.inside in
+    let on : is_on c.args.power.now ≡ true = sym c.on.ensures ∙ c.if-not-on.false in
+    let is : k.lost ≡ false = awake k.tables k.group k.pm k.batched k.lost c.args.self.now c.args.power.now c.self.view_is c.requires.awake on in
+    let ready = c.self.invariant is in
+    let file : IsStagingFile c.args.staging k.tables.volume = subst (λ (x : View). x.lost ≡ false → IsStagingFile c.args.staging x.volume) (sym c.self.view_is) c.requires.staging is in
+    let bare : extents k.tables.volume c.args.staging ≡ [] = subst (λ (x : View). x.lost ≡ false → extents x.volume c.args.staging ≡ []) (sym c.self.view_is) c.requires.bare is in
+    let planned-one = c.in-Ok.ensures.answer in
+    let n = c.land_maps_change.new in
+    let gathers : k.batched ≡ true = ap (λ (x : View). x.batched) c.self.view_is ∙ batched in
+    let planned : IsMapPlanOn k.tables c.plan_preallocate.new.tables c.from_ref.result.now k.group c.plan_preallocate.new.batch k.pm k.batched =
+    subst (λ (ns : List NewChain). IsMapPlanOn k.tables c.plan_preallocate.new.tables ns k.group c.plan_preallocate.new.batch k.pm k.batched) (sym c.from_ref.ensures.value) (record {
+      ready = ready-none k.tables k.group k.batch k.pm k.batched ready;
+      plan = planned-one.1.plan;
+      joining = preallocated-joins k.tables c.plan_preallocate.new.tables c.args.staging c.plan_preallocate.new.batch ready.opened.whole file.below c.args.count c.in-Ok.map planned-one.0 planned-one.1;
+      keeps = λ e singles. unstaged-from k.tables.volume c.plan_preallocate.new.tables.volume k.pm e planned-one.1.plan.geometry singles ready.unstaged (λ i free.
+          inl (filled-unstaged k.tables.volume c.plan_preallocate.new.tables.volume c.args.staging (aged (inode k.tables.volume c.args.staging)) planned-one.0.blocks planned-one.0.es
+          planned-one.0.is_preallocated bare (i / 512) free));
+    })
     in
-    let plan : IsMapPlan c.from_ref.result.now k.tables.volume u.volume c.plan_preallocate.new.batch =
-    subst (λ (ns : List NewChain). IsMapPlan ns k.tables.volume u.volume c.plan_preallocate.new.batch) (sym c.from_ref.ensures.value) one.plan
-    in
-    let ready : IsMapPlanned c.from_ref.result.now k.tables.volume u.volume c.plan_preallocate.new.batch k.pm =
-    map-planned k.tables u k.pm k.batched k.lost k.batch c.plan_preallocate.new.batch c.from_ref.result.now is c.self.invariant plan
-    in
-    let bare : extents k.tables.volume c.args.staging ≡ [] =
-    subst (λ (x : View). x.lost ≡ false → extents x.volume c.args.staging ≡ []) (sym c.self.view_is) c.requires.bare is
-    in
-    let order = (c.self.invariant is).order in
-    let keeps : (e : List Cell) → KeepsSingle k.pm e → IsUnstagedSingle u.volume e =
-    λ e singles.
-    unstaged-from k.tables.volume u.volume k.pm e plan.geometry singles order.unstaged (λ i free.
-    inl (filled-unstaged k.tables.volume u.volume c.args.staging (aged (inode k.tables.volume c.args.staging)) made.blocks made.es
-    made.is_preallocated bare (i / 512) free))
-    in
-    let landed = c.land_maps_plan.ensures.landed k.tables.volume ready in
-    map-answer k.tables u k.pm k.batched k.lost k.batch c.plan_preallocate.new.batch c.from_ref.result.now is c.self.invariant plan one.waiting one.none_aside keeps
-    (blocks_of c.from_ref.result.now)
-    (λ x w blocks. IsPreallocatedWith c.args.staging c.args.count x w blocks) c.args.self.now c.land_maps_plan.new.pm c.args.power.now c.land_maps_plan.new.power
-    c.land_maps_plan.new.lost c.land_maps_plan.result c.land_maps_plan.ensures.same c.land_maps_plan.ensures.noted c.self.view_is
-    (record { preallocated = made; written = ap blocks_of c.from_ref.ensures.value ∙ blocks_of-one c.in-Ok.map ∙ one.chain_is }) landed
+    gather-maps k.tables c.plan_preallocate.new.tables c.from_ref.result.now k.group c.plan_preallocate.new.batch k.pm k.batched k.lost is planned gathers n.tables n.group n.pm n.lost
+    c.land_maps_change.ensures.volume (λ x w blocks. IsPreallocatedWith c.args.staging c.args.count x w blocks) c.args.self.now n.power
+    c.land_maps_change.result c.self.view_is c.land_maps_change.ensures.same c.land_maps_change.ensures.noted
+    (ready-none-ok n.tables n.group n.batch n.pm k.batched c.land_maps_change.result (c.land_maps_change.ensures.ready k.tables planned))
+    (record {
+      preallocated = subst (λ (x : TablesView). IsPreallocated (is_free_block x) c.args.staging c.args.count k.tables.volume c.plan_preallocate.new.tables.volume)
+          (none_there k.tables ready.opened.idle) planned-one.0;
+      written = ap blocks_of c.from_ref.ensures.value ∙ blocks_of-one c.in-Ok.map ∙ planned-one.1.chain_is;
+    })
+    (c.land_maps_change.ensures.joined k.tables planned gathers)

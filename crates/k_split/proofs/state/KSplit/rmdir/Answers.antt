@@ -1,52 +1,74 @@
-use Rattle.std.proofs.Common.{◌≡◌, true, false, sym, ◌∙◌, subst}
+use Rattle.std.proofs.Common.{[], ◌≡◌, ℕ, true, false, Option, None, Err, refl, sym, ◌∙◌, ap, inr, subst}
 use Rattle.block_io.specs.pm_model.Powers.{is_on}
-use Rattle.block_io.specs.image_model.Volume.{Volume}
+use Rattle.k_tables.specs.k_split_model.View.{View}
+use Rattle.k_split.specs.Landed.{IsPlanOn}
+use Rattle.k_group_commit.specs.PlanJoins.{removed-keeps}
 use Rattle.k_map_plans.specs.k_plans.Removing.{IsRemoved}
 use Rattle.k_split.specs.Names.{rmdir_row}
-use Rattle.k_split.proofs.ChangeLaws.{answer-landed, awake, memory-landed, paid-landed, planned, ready-landed}
-use Rattle.k_split.proofs.Released.{released, same-volume}
+use Rattle.k_split.proofs.ChangeLaws.{answer-landed, awake, ready-none, ready-none-ok}
+use Rattle.k_split.proofs.Joined.{gather-landed}
+use Rattle.k_split.proofs.Powered.{landed-powered}
 use Rattle.k_split.proofs.state.KSplit.rmdir.Goals as goal
 
-pub land_plan-requires : goal.land_plan-requires
-land_plan-requires c =
+pub land_change-requires-clause-plan : goal.land_change-requires-clause-plan
+land_change-requires-clause-plan c =
     let k = c.self.inside in
     let on : is_on c.args.power.now ≡ true = sym c.on.ensures ∙ c.if-not-on.false in
-    let is : k.lost ≡ false = awake k.tables k.pm k.batched k.lost c.args.self.now c.args.power.now c.self.view_is c.requires.awake on in
-    let plan = released k.tables c.rmdir.new.self c.release.new.self c.rmdir.new.batch (c.in-Ok.ensures.answer.2) c.release.ensures.released in
-    (k.tables.volume, planned k.tables c.release.new.self k.pm k.batched k.lost k.batch c.rmdir.new.batch is c.self.invariant plan)
-
-pub invariant_of-self-in-Ok : goal.invariant_of-self-in-Ok
-invariant_of-self-in-Ok c off =
-    let k = c.self.inside in
-    let on : is_on c.args.power.now ≡ true = sym c.on.ensures ∙ c.if-not-on.false in
-    let is : k.lost ≡ false = awake k.tables k.pm k.batched k.lost c.args.self.now c.args.power.now c.self.view_is c.requires.awake on in
-    let plan = released k.tables c.rmdir.new.self c.release.new.self c.rmdir.new.batch (c.in-Ok.ensures.answer.2) c.release.ensures.released in
-    ready-landed k.tables c.release.new.self k.pm k.batched k.lost k.batch c.rmdir.new.batch is c.self.invariant plan c.land_plan.new.pm c.args.power.now c.land_plan.new.power c.land_plan.new.lost c.land_plan.new.batch c.land_plan.result
-    (c.land_plan.ensures.landed k.tables.volume (planned k.tables c.release.new.self k.pm k.batched k.lost k.batch c.rmdir.new.batch is c.self.invariant plan)) c.land_plan.ensures.no_lines c.land_plan.ensures.noted off
-
-pub returns-in-Ok-clause-paid : goal.returns-in-Ok-clause-paid
-returns-in-Ok-clause-paid c =
-    let k = c.self.inside in
-    let on : is_on c.args.power.now ≡ true = sym c.on.ensures ∙ c.if-not-on.false in
-    let is : k.lost ≡ false = awake k.tables k.pm k.batched k.lost c.args.self.now c.args.power.now c.self.view_is c.requires.awake on in
-    let plan = released k.tables c.rmdir.new.self c.release.new.self c.rmdir.new.batch (c.in-Ok.ensures.answer.2) c.release.ensures.released in
-    paid-landed (rmdir_row c.args.path.now) k.tables c.release.new.self c.rmdir.new.batch k.pm c.land_plan.new.pm k.batched k.lost c.args.self.now c.args.power.now c.land_plan.new.power c.land_plan.result
-    c.self.view_is c.in-Ok.ensures.answer.0 plan (c.land_plan.ensures.landed k.tables.volume (planned k.tables c.release.new.self k.pm k.batched k.lost k.batch c.rmdir.new.batch is c.self.invariant plan))
+    let is : k.lost ≡ false = awake k.tables k.group k.pm k.batched k.lost c.args.self.now c.args.power.now c.self.view_is c.requires.awake on in (
+      k.tables,
+      record {
+        ready = ready-none k.tables k.group k.batch k.pm k.batched (c.self.invariant is);
+        plan = c.in-Ok.ensures.answer.2;
+        keeps = removed-keeps c.args.path.now k.tables.volume c.rmdir.new.self.volume c.in-Ok.ensures.answer.1;
+      },
+    )
 
 pub returns-in-Ok-clause-answer : goal.returns-in-Ok-clause-answer
-returns-in-Ok-clause-answer c off =
+returns-in-Ok-clause-answer c unbatched =
     let k = c.self.inside in
+    let n = c.land_change.new in
     let on : is_on c.args.power.now ≡ true = sym c.on.ensures ∙ c.if-not-on.false in
-    let is : k.lost ≡ false = awake k.tables k.pm k.batched k.lost c.args.self.now c.args.power.now c.self.view_is c.requires.awake on in
-    let plan = released k.tables c.rmdir.new.self c.release.new.self c.rmdir.new.batch (c.in-Ok.ensures.answer.2) c.release.ensures.released in
-    answer-landed k.tables c.release.new.self k.pm k.batched k.lost k.batch c.rmdir.new.batch is c.self.invariant plan (rmdir_row c.args.path.now) (λ x done w. IsRemoved c.args.path.now x.volume w) c.args.self.now c.land_plan.new.pm c.args.power.now c.land_plan.new.power c.land_plan.new.lost c.land_plan.result
-    c.land_plan.ensures.same c.land_plan.ensures.noted c.self.view_is c.in-Ok.ensures.answer.0 (subst (λ (v : Volume). IsRemoved c.args.path.now k.tables.volume v) (same-volume c.rmdir.new.self c.release.new.self c.release.ensures.released) c.in-Ok.ensures.answer.1) (c.land_plan.ensures.landed k.tables.volume (planned k.tables c.release.new.self k.pm k.batched k.lost k.batch c.rmdir.new.batch is c.self.invariant plan))
+    let is : k.lost ≡ false = awake k.tables k.group k.pm k.batched k.lost c.args.self.now c.args.power.now c.self.view_is c.requires.awake on in
+    let off : k.batched ≡ false = ap (λ (x : View). x.batched) c.self.view_is ∙ unbatched in
+    let planned : IsPlanOn k.tables c.rmdir.new.self k.group c.rmdir.new.batch k.pm k.batched = record {
+      ready = ready-none k.tables k.group k.batch k.pm k.batched (c.self.invariant is);
+      plan = c.in-Ok.ensures.answer.2;
+      keeps = removed-keeps c.args.path.now k.tables.volume c.rmdir.new.self.volume c.in-Ok.ensures.answer.1;
+    } in
+    answer-landed k.tables c.rmdir.new.self k.group c.rmdir.new.batch k.pm k.batched k.lost c.args.self.now is c.self.view_is planned n.tables n.group n.pm n.lost
+    c.land_change.ensures.volume off (rmdir_row c.args.path.now) (λ x done w. IsRemoved c.args.path.now x.volume w) c.args.power.now n.power c.land_change.result
+    c.land_change.ensures.same c.land_change.ensures.noted
+    (ready-none-ok n.tables n.group n.batch n.pm k.batched c.land_change.result (c.land_change.ensures.ready k.tables planned)) c.in-Ok.ensures.answer.0 c.in-Ok.ensures.answer.1
+    (c.land_change.ensures.landed k.tables planned off)
 
-pub returns-in-Ok-clause-memory : goal.returns-in-Ok-clause-memory
-returns-in-Ok-clause-memory c =
+pub returns-in-Ok-clause-gathers : goal.returns-in-Ok-clause-gathers
+returns-in-Ok-clause-gathers c batched =
     let k = c.self.inside in
+    let n = c.land_change.new in
     let on : is_on c.args.power.now ≡ true = sym c.on.ensures ∙ c.if-not-on.false in
-    let is : k.lost ≡ false = awake k.tables k.pm k.batched k.lost c.args.self.now c.args.power.now c.self.view_is c.requires.awake on in
-    let plan = released k.tables c.rmdir.new.self c.release.new.self c.rmdir.new.batch (c.in-Ok.ensures.answer.2) c.release.ensures.released in
-    memory-landed k.tables.volume c.release.new.self.volume c.rmdir.new.batch k.pm c.land_plan.new.pm c.args.power.now c.land_plan.new.power c.land_plan.result
-    (c.land_plan.ensures.landed k.tables.volume (planned k.tables c.release.new.self k.pm k.batched k.lost k.batch c.rmdir.new.batch is c.self.invariant plan))
+    let is : k.lost ≡ false = awake k.tables k.group k.pm k.batched k.lost c.args.self.now c.args.power.now c.self.view_is c.requires.awake on in
+    let gathers : k.batched ≡ true = ap (λ (x : View). x.batched) c.self.view_is ∙ batched in
+    let planned : IsPlanOn k.tables c.rmdir.new.self k.group c.rmdir.new.batch k.pm k.batched = record {
+      ready = ready-none k.tables k.group k.batch k.pm k.batched (c.self.invariant is);
+      plan = c.in-Ok.ensures.answer.2;
+      keeps = removed-keeps c.args.path.now k.tables.volume c.rmdir.new.self.volume c.in-Ok.ensures.answer.1;
+    } in
+    gather-landed k.tables c.rmdir.new.self k.group c.rmdir.new.batch k.pm k.batched k.lost is planned gathers n.tables n.group n.pm n.lost
+    c.land_change.ensures.volume (rmdir_row c.args.path.now) (λ x done w. IsRemoved c.args.path.now x.volume w) c.args.self.now n.power c.land_change.result c.self.view_is
+    c.land_change.ensures.same c.land_change.ensures.noted
+    (ready-none-ok n.tables n.group n.batch n.pm k.batched c.land_change.result (c.land_change.ensures.ready k.tables planned)) c.in-Ok.ensures.answer.0 c.in-Ok.ensures.answer.1
+    (c.land_change.ensures.joined k.tables planned gathers)
+
+pub returns-in-Ok-clause-powered : goal.returns-in-Ok-clause-powered
+returns-in-Ok-clause-powered c batched =
+    let k = c.self.inside in
+    let n = c.land_change.new in
+    let on : is_on c.args.power.now ≡ true = sym c.on.ensures ∙ c.if-not-on.false in
+    let is : k.lost ≡ false = awake k.tables k.group k.pm k.batched k.lost c.args.self.now c.args.power.now c.self.view_is c.requires.awake on in
+    let gathers : k.batched ≡ true = ap (λ (x : View). x.batched) c.self.view_is ∙ batched in
+    let planned : IsPlanOn k.tables c.rmdir.new.self k.group c.rmdir.new.batch k.pm k.batched = record {
+      ready = ready-none k.tables k.group k.batch k.pm k.batched (c.self.invariant is);
+      plan = c.in-Ok.ensures.answer.2;
+      keeps = removed-keeps c.args.path.now k.tables.volume c.rmdir.new.self.volume c.in-Ok.ensures.answer.1;
+    } in
+    landed-powered planned.ready.committed k.tables c.rmdir.new.self n.tables [] k.group c.rmdir.new.batch n.group k.pm n.pm n.power c.land_change.result (c.land_change.ensures.joined k.tables planned gathers)

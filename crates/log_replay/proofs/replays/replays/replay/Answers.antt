@@ -45,13 +45,13 @@ relink-requires-clause-room c on =
 pub returns-in-Err-clause-steps : goal.returns-in-Err-clause-steps
 returns-in-Err-clause-steps c =
     more-steps (length c.args.entries.now) c.loop-entry.entry-index c.args.power.now c.loop-entry.power c.relink.new.power (omega arith)
-    c.loop-entry.invariant.1 c.relink.ensures.steps
+    c.loop-entry.invariant.1 (c.relink.ensures.steps c.loop-entry.invariant.0.rest.unbatched)
 
 pub returns-in-Err-clause-paid : goal.returns-in-Err-clause-paid
 returns-in-Err-clause-paid c =
     let answer = subst (λ m. IsRelinkAnswer m c.loop-entry.k c.relink.new.self (Err c.in-Err.fault)) c.move_for.ensures (c.in-Err.ensures.answer c.loop-entry.invariant.0.rest.unbatched) in
     subst (IsReplayPaid c.relink.new.power) (sym c.stopped_by.ensures)
-    (way-stops-paid (entry_at c.args.entries.now c.loop-entry.entry-index) c.loop-entry.k c.relink.new.self c.loop-entry.power c.relink.new.power c.in-Err.fault answer c.in-Err.ensures.paid)
+    (way-stops-paid (entry_at c.args.entries.now c.loop-entry.entry-index) c.loop-entry.k c.relink.new.self c.loop-entry.power c.relink.new.power c.in-Err.fault answer (c.in-Err.ensures.paid c.loop-entry.invariant.0.rest.unbatched))
 
 pub returns-in-Err-clause-answer : goal.returns-in-Err-clause-answer
 returns-in-Err-clause-answer c =
@@ -82,8 +82,8 @@ loop-entry-preserved c =
     in
     let gave = subst (λ m. IsRelinkAnswer m c.loop-entry.k c.relink.new.self (Ok tt)) c.move_for.ensures (c.in-Ok.ensures.answer c.loop-entry.invariant.0.rest.unbatched) in (
       way-goes_on c.args.k.now e (drop (i + 1) ds) c.loop-entry.k way c.relink.new.self gave,
-      more-steps (i + 1) i c.args.power.now c.loop-entry.power c.relink.new.power (omega arith) c.loop-entry.invariant.1 c.relink.ensures.steps,
-      c.in-Ok.ensures.paid.0,
+      more-steps (i + 1) i c.args.power.now c.loop-entry.power c.relink.new.power (omega arith) c.loop-entry.invariant.1 (c.relink.ensures.steps c.loop-entry.invariant.0.rest.unbatched),
+      (c.in-Ok.ensures.paid c.loop-entry.invariant.0.rest.unbatched).0,
       device-then c.args.k.now.cells c.loop-entry.k.cells c.relink.new.self.cells c.loop-entry.invariant.3 (device-mapped (IsMovedWith c.move_for.result c.loop-entry.k) c.loop-entry.k c.relink.new.self c.relink.result (c.relink.ensures.answer c.loop-entry.invariant.0.rest.unbatched)),
     )
 

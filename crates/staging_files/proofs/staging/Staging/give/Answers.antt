@@ -62,7 +62,7 @@ invariant_of-self-in-Err c = subst (λ xs. IsStaged (record { out = xs; given = 
 pub returns-in-Err-clause-paid : goal.returns-in-Err-clause-paid
 returns-in-Err-clause-paid c =
     subst (λ f. IsReservePaid c.args.power.now c.preallocate.new.power (Err f)) (sym c.fault_of.ensures)
-    (give-stopped-paid c.args.staging c.args.share c.args.k.now c.preallocate.new.self c.args.power.now c.preallocate.new.power c.in-Err.fault (c.in-Err.ensures.answer c.requires.unbatched) c.in-Err.ensures.paid)
+    (give-stopped-paid c.args.staging c.args.share c.args.k.now c.preallocate.new.self c.args.power.now c.preallocate.new.power c.in-Err.fault (c.in-Err.ensures.answer c.requires.unbatched) (c.in-Err.ensures.paid c.requires.unbatched))
 
 pub returns-in-Err-clause-answer : goal.returns-in-Err-clause-answer
 returns-in-Err-clause-answer c =

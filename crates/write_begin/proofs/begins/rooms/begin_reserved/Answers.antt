@@ -5,12 +5,13 @@ use Rattle.write_plan.specs.eof_laws.block_io.Overwrites.{blocks_reached}
 use Rattle.write_plan.specs.file_table.Files.{size_in}
 use Rattle.write_plan.specs.image_model.Volume.{Volume}
 use Rattle.write_plan.specs.k_split_model.View.{View}
+use Rattle.live_step_laws.specs.staging_files.Reserves.{AreSame}
 use Rattle.write_begin.specs.Goes.{KeepsMaps, LacksRun, reached_run}
 use Rattle.write_begin.proofs.Spared.{line_there}
-use Rattle.write_begin.proofs.Cleared.{gone_ok, same_volume}
+use Rattle.write_begin.proofs.Cleared.{gone_ok, paid_ok, same_volume}
 use Rattle.write_begin.proofs.Maps.{same_maps}
 use Rattle.write_begin.proofs.Plans.{plan_cleans}
-use Rattle.write_begin.proofs.Losses.{first_fits, lacks_run, late_of, loses_run}
+use Rattle.write_begin.proofs.Losses.{first_fits, goes_same, lacks_run, late_of, loses_run}
 use Rattle.write_begin.proofs.Runs.{has_file, keeps_maps, loses_gap, ready_of, run_out}
 use Rattle.write_begin.proofs.begins.rooms.begin_reserved.Goals as goal
 
@@ -94,3 +95,18 @@ returns-else-is_fresh-clause-gone c =
 
 pub reserve-requires-clause-unbatched : goal.reserve-requires-clause-unbatched
 reserve-requires-clause-unbatched c on = c.requires.goes.stands.unbatched
+
+pub returns-in-Done-clause-paid : goal.returns-in-Done-clause-paid
+returns-in-Done-clause-paid c =
+    paid_ok c.clear_gap.new.k c.begin_job.new.k c.reserve.new.self c.begin_job.new.staging c.args.files.now c.args.who c.args.target c.args.bytes.now c.in-Ok.run' c.clear_gap.new.power
+    c.in-Done.ensures.paid c.begin_job.result c.begin_job.ensures
+
+pub returns-in-Err-NoMemory-clause-keeps : goal.returns-in-Err-NoMemory-clause-keeps
+returns-in-Err-NoMemory-clause-keeps c on =
+    let same : AreSame c.args.staging.now c.reserve.new.self c.args.k.now c.reserve.new.k = rw c.in-Err-NoMemory.field-0-is at c.in-Err-NoMemory.ensures.answer in
+    subst (λ (y : View). KeepsMaps c.args.k.now.volume y.volume c.args.files.now c.args.files.now None) (sym same.volume) (same_maps c.args.k.now.volume c.args.files.now)
+
+pub returns-in-Err-NoMemory-clause-gone : goal.returns-in-Err-NoMemory-clause-gone
+returns-in-Err-NoMemory-clause-gone c =
+    let same : AreSame c.args.staging.now c.reserve.new.self c.args.k.now c.reserve.new.k = rw c.in-Err-NoMemory.field-0-is at c.in-Err-NoMemory.ensures.answer in
+    goes_same c.args.mode c.args.k.now c.reserve.new.k c.args.staging.now c.reserve.new.self c.args.files.now c.args.who c.args.target c.args.bytes.now same

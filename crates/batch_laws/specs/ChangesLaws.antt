@@ -86,7 +86,7 @@ in_behind : (xs ys : List Draft) (d : Draft) → In d ys → In d (xs ++ ys)
 in_behind [] ys d is = is
 in_behind (x ∷ xs) ys d is = inr (in_behind xs ys d is)
 
-in_flat : (f : ℕ → List Draft) (a n ino : ℕ) (d : Draft) → a ≤ ino → ino < a + n → In d (f ino) → In d (flat_map f (range_with_len a n))
+pub in_flat : (f : ℕ → List Draft) (a n ino : ℕ) (d : Draft) → a ≤ ino → ino < a + n → In d (f ino) → In d (flat_map f (range_with_len a n))
 in_flat f a zero ino d low high is = absurd (omega (arith, low, high))
 in_flat f a (suc n) ino d low high is = elim (cases_eq a ino) [
   | inl same ↦ in_front (f a) (flat_map f (range_with_len (a + 1) n)) d (subst (λ i. In d (f i)) (sym same) is)

@@ -32,5 +32,9 @@ pub mod BeginningsLaws
 pub mod Together
 pub mod Backs
 pub mod BacksLaws
+pub mod Joins
+pub mod JoinsLaws
+pub mod StandsOn
+pub mod StandsOnLaws
 pub use Rattle.eof_laws.specs.live_model as live_model
 pub use Rattle.posix_mode_laws.specs as posix_mode_laws

@@ -8,6 +8,7 @@ use Rattle.eof_laws.specs.live_model.commute_laws.posix_types.declared.call.Call
 use Rattle.eof_laws.specs.live_model.commute_laws.posix_types.declared.call.Who.{Who}
 use Rattle.eof_laws.specs.live_model.commute_laws.posix_types.declared.handle.Handle.{Handle}
 use Rattle.eof_laws.specs.live_model.commute_laws.posix_types.declared.reply.Reply.{Reply}
+use Rattle.eof_laws.specs.live_model.commute_laws.posix_types.declared.item.Item.{Item}
 use Rattle.eof_laws.specs.live_model.posix_tables.declared.nodes.Node.{Node}
 use Rattle.eof_laws.specs.live_model.posix_tables.Names.{directory_stands, exists_at, file_stands, is_named, number_at}
 use Rattle.eof_laws.specs.live_model.posix_tables.Nodes.{bytes_of, node_at, published_node}
@@ -22,6 +23,8 @@ use Rattle.eof_laws.specs.live_model.posix_laws.RowLaws.{stepped-keeps}
 use Rattle.eof_laws.specs.live_model.posix_laws.Shortens.{ends_before}
 use Rattle.eof_laws.specs.live_model.crash_spec.Posix.{is_fsync, is_ok}
 use Rattle.eof_laws.specs.live_model.crash_spec.Values.{value_of}
+use Rattle.eof_laws.specs.live_model.crash_spec.Posix.{syncs}
+use Rattle.batch_laws.specs.Changes.{PutsNone}
 use Rattle.batch_laws.specs.Quiet.{IsQuiet, QuietPutsNone, RefusedPutsNone}
 
 -- a node goes, or has the bytes that it had, or had none
@@ -182,4 +185,12 @@ refused_puts_none s item same none quiet = record {
   no_sync = quiet;
   puts = λ n i. ap (λ o. value_of o n i) none;
   shortens_none = λ n i. not_shorter (node_at s.nodes n) (node_at (after_call s (begun item)).nodes n) i (inr (inl (ap (λ (t : State). bytes_of (node_at t.nodes n)) same)));
+}
+
+-- and so does a call, no write and no `fsync`, behind which all nodes are as they were
+pub still_puts_none : (s : State) (item : Item) → (after_call s (begun item)).nodes ≡ s.nodes → put_by s item.who item.call ≡ None → syncs item ≡ false → PutsNone s item
+still_puts_none s item same none quiet = record {
+  no_sync = quiet;
+  puts = λ n i. ap (λ o. value_of o n i) none;
+  shortens_none = λ n i. not_shorter (node_at s.nodes n) (node_at (after_call s (begun item)).nodes n) i (inr (inl (ap (λ (xs : List Node). bytes_of (node_at xs n)) same)));
 }

@@ -3,10 +3,11 @@
 use Rattle.std.specs.Prelude.{◌≡◌, ◌≤◌, ◌+◌, ◌^◌, ℕ, Bool, true, Contains, List, [], length}
 use Rattle.eof_laws.specs.Ends.{FilesEnd}
 use Rattle.eof_laws.specs.live_model.layout_model.Places.{Geometry}
+use Rattle.eof_laws.specs.live_model.layout_model.block_counts.declared.TheConstants.{LONGEST_FILE}
 use Rattle.eof_laws.specs.live_model.layout_model.declared.lines.Draft.{Draft}
 use Rattle.eof_laws.specs.live_model.layout_model.declared.lines.Kind.TheVariants.{File}
 use Rattle.eof_laws.specs.live_model.image_model.Volume.{inode}
-use Rattle.eof_laws.specs.live_model.file_table.Files.{Files, runs_in}
+use Rattle.eof_laws.specs.live_model.file_table.Files.{Files, runs_in, size_in}
 use Rattle.eof_laws.specs.live_model.k_split_model.View.{View}
 use Rattle.eof_laws.specs.live_model.list_laws.Members.{In}
 use Rattle.eof_laws.specs.live_model.commute_laws.posix_types.declared.item.Item.{Item}
@@ -27,9 +28,9 @@ with_parts kept staging files = record kept { staging = staging; files = files }
 
 -- THEY STAND TOGETHER IN POSIX MODE, after the history: the device goes on, ready for a commit, by what is kept of files; no job is out
 -- and no entry is logged; the log lines are out or at home, with no entry; the tables of the state are those of the open files; the
--- staging agrees with the batch, and has a run of its own out for each run that is staged; and nothing of a file lies past its length
--- in memory. At most n nodes were made since the lap began; and the last order of each file, those of its staged runs among them, is
--- at most n above what a mount leaves.
+-- staging agrees with the batch, and has a run of its own out for each run that is staged; nothing of a file lies past its length
+-- in memory; and no length is more than a file may have. At most n nodes were made since the lap began; and the last order of each
+-- file, those of its staged runs among them, is at most n above what a mount leaves.
 pub record PosixStandsAt (g : Geometry) (k : View) (t : Tables) (kept : Kept) (lines_out : Bool) (n : ℕ) (start : State) (history : List Item) : Type 0 where
   pub count : ℕ
   pub few : count ≤ n
@@ -48,3 +49,4 @@ pub record PosixStandsAt (g : Geometry) (k : View) (t : Tables) (kept : Kept) (l
   pub owed : length (staged_of k.volume kept.files) ≤ length kept.staging.out
   pub low : (ino : ℕ) → (inode k.volume ino).applied + length (runs_in kept.files ino) ≤ 2 ^ 62 + n
   pub ends : FilesEnd k.volume kept.files
+  pub short : (ino : ℕ) → (inode k.volume ino).kind ≡ File → size_in kept.files ino ≤ LONGEST_FILE

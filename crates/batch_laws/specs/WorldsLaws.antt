@@ -108,7 +108,7 @@ cut_is_world g k files count numbers start history image going is_image = record
 
 -- ---- the staged runs of one file
 
-of_file : (v : Volume) (files : Files) (ino other : ℕ) (rs : List Run) → other ≢ ino → entries_of ino (map (draft_of_run v files other) rs) ≡ []
+pub of_file : (v : Volume) (files : Files) (ino other : ℕ) (rs : List Run) → other ≢ ino → entries_of ino (map (draft_of_run v files other) rs) ≡ []
 of_file v files ino other [] apart = refl
 of_file v files ino other (r ∷ rs) apart =
     ap (λ (b : Bool). if b then (draft_of_run v files other r ∷ entries_of ino (map (draft_of_run v files other) rs)) else entries_of ino (map (draft_of_run v files other) rs)) (ne_eqb other ino apart) ∙ of_file v files ino other rs apart
@@ -120,10 +120,10 @@ own_file v files ino (r ∷ rs) =
     ∙ ap (λ es. draft_of_run v files ino r ∷ es) (own_file v files ino rs)
 
 -- of the files from one on
-abbrev runs_from : Volume → Files → ℕ → ℕ → List Draft
+abbrev pub runs_from : Volume → Files → ℕ → ℕ → List Draft
 runs_from v files a n = flat_map (λ (ino : ℕ). map (draft_of_run v files ino) (runs_in files ino)) (range_with_len a n)
 
-split_first : (v : Volume) (files : Files) (ino a n : ℕ) → entries_of ino (runs_from v files a (suc n)) ≡ entries_of ino (map (draft_of_run v files a) (runs_in files a)) ++ entries_of ino (runs_from v files (a + 1) n)
+pub split_first : (v : Volume) (files : Files) (ino a n : ℕ) → entries_of ino (runs_from v files a (suc n)) ≡ entries_of ino (map (draft_of_run v files a) (runs_in files a)) ++ entries_of ino (runs_from v files (a + 1) n)
 split_first v files ino a n = filter-append (λ (d : Draft). d.ino == ino) (map (draft_of_run v files a) (runs_in files a)) (runs_from v files (a + 1) n)
 
 before_it : (v : Volume) (files : Files) (ino a n : ℕ) → ino < a → entries_of ino (runs_from v files a n) ≡ []
@@ -136,7 +136,7 @@ append_none : (xs : List Draft) → xs ++ [] ≡ xs
 append_none [] = refl
 append_none (x ∷ xs) = ap (λ ys. x ∷ ys) (append_none xs)
 
-at_it : (v : Volume) (files : Files) (ino a n : ℕ) → a ≤ ino → ino < a + n → entries_of ino (runs_from v files a n) ≡ map (draft_of_run v files ino) (runs_in files ino)
+pub at_it : (v : Volume) (files : Files) (ino a n : ℕ) → a ≤ ino → ino < a + n → entries_of ino (runs_from v files a n) ≡ map (draft_of_run v files ino) (runs_in files ino)
 at_it v files ino a zero low high = absurd (omega (arith, low, high))
 at_it v files ino a (suc n) low high = elim (cases_eq a ino) [
   | inl same ↦
@@ -161,7 +161,7 @@ one_size v files ino (r ∷ rs) d (inl same) = ap (λ (e : Draft). e.size) (sym 
 one_size v files ino (r ∷ rs) d (inr behind) = one_size v files ino rs d behind
 
 -- a size of the list is that of its line
-line_size : (xs : List Inode) (ns : List ℕ) (i : ℕ) → length ns ≡ length xs → i < length xs → (slice_index_or (with_sizes xs ns) i free_inode).size ≡ slice_index ns i
+pub line_size : (xs : List Inode) (ns : List ℕ) (i : ℕ) → length ns ≡ length xs → i < length xs → (slice_index_or (with_sizes xs ns) i free_inode).size ≡ slice_index ns i
 line_size [] ns i same below = absurd (omega (arith, below))
 line_size (x ∷ xs) [] i same below = absurd (omega (arith, same))
 line_size (x ∷ xs) (n ∷ ns) zero same below = refl
@@ -174,13 +174,13 @@ size_by_runs v files ino other rs line = by (latest (map (draft_of_run v files i
   by (Some d) is = sym (one_size v files ino rs d (latest-In (map (draft_of_run v files ino) rs) d is))
 
 -- of a file of the volume
-below_files : (v : Volume) (ino : ℕ) → (inode v ino).kind ≡ File → ino < length v.inodes
+pub below_files : (v : Volume) (ino : ℕ) → (inode v ino).kind ≡ File → ino < length v.inodes
 below_files v ino file = elim (cases_lt ino (length v.inodes)) [
   | inl low ↦ low
   | inr past ↦ (let never : File ≡ Free = sym file ∙ ap (λ (x : Inode). x.kind) (get_or_past v.inodes ino free_inode past) in cc)
 ]
 
-entries_staged : (v : Volume) (files : Files) (ino : ℕ) → length files.sizes ≡ length v.inodes → (inode v ino).kind ≡ File → entries_of ino (staged_of v files) ≡ map (draft_of_run v files ino) (runs_in files ino)
+pub entries_staged : (v : Volume) (files : Files) (ino : ℕ) → length files.sizes ≡ length v.inodes → (inode v ino).kind ≡ File → entries_of ino (staged_of v files) ≡ map (draft_of_run v files ino) (runs_in files ino)
 entries_staged v files ino same file =
     let below = below_files v ino file in
     at_it v files ino 0 (length files.sizes) (omega arith) (omega (arith, below, same))

@@ -27,10 +27,12 @@ ghost use Rattle.batch_laws.specs.Changes.{ChangeGoesOn};
 ghost use Rattle.batch_laws.specs.Commits.{CommitGoesOn, CommitKeepsLog, CommitKeepsPromise};
 ghost use Rattle.batch_laws.specs.Goings.{GoingGoesOn};
 ghost use Rattle.batch_laws.specs.Idle.{CloseGoesOn, LengthsAreKept, LookGoesOn, OpenGoesOn, RefusalGoesOn, StillGoesOn};
+ghost use Rattle.batch_laws.specs.Joins.{CommitIsFound, FoundGoesOn, LossLeaves, MakeJoins, MakeLoses, RmdirJoins, RmdirLoses};
 ghost use Rattle.batch_laws.specs.Losses.{BeginGoesOn, BeginKeepsLog, ChangeKeepsLog, LossKeepsPromise};
 ghost use Rattle.batch_laws.specs.Promise.{GoingIsPromised, GoingRuns};
 ghost use Rattle.batch_laws.specs.Quiet.{QuietPutsNone, RefusedPutsNone};
 ghost use Rattle.batch_laws.specs.Spaces.{PathsLeadAlike, RowsAreAlike};
+ghost use Rattle.batch_laws.specs.StandsOn.{FilesStandOn};
 ghost use Rattle.batch_laws.specs.Steps.{BlocksStay, LinesOfOne, WorldsMakeBatch};
 ghost use Rattle.batch_laws.specs.Worlds.{CutIsWorld, LiveIsWorld, StagedIsOverlay};
 
@@ -129,6 +131,26 @@ pub fn a_call_begins()
 /// The power goes in a call that gathers: the promise is kept.
 pub fn a_call_loses_its_power()
     ensures { LossKeepsPromise }
+{}
+
+/// A change of names joins the batch in two moves: K-Split as it was, or its batch committed, and then the change, which gathers.
+pub fn a_change_joins()
+    ensures found { FoundGoesOn }
+    ensures committed { CommitIsFound }
+    ensures made { MakeJoins }
+    ensures removed { RmdirJoins }
+{}
+
+/// The power goes in a change of names: the loss is one of those in which the promise is kept, and the device is left of the one before.
+pub fn a_change_loses_its_power()
+    ensures made { MakeLoses }
+    ensures removed { RmdirLoses }
+    ensures left { LossLeaves }
+{}
+
+/// What stands together goes on to, behind a change that leaves files as they were.
+pub fn what_stands_goes_on()
+    ensures { FilesStandOn }
 {}
 
 /// With its log lines out the device keeps the promise once they are put back: between two calls, and where the power

@@ -6,19 +6,19 @@ use Rattle.eof_laws.specs.pm_model.Powers.{Supply}
 use Rattle.layout_model.specs.declared.lines.Draft.{Draft}
 use Rattle.eof_laws.specs.layout_model.Places.{Geometry, reserve}
 use Rattle.layout_model.specs.declared.lines.Kind.TheVariants.{File}
+use Rattle.eof_laws.specs.image_model.Room.{unused_blocks}
 use Rattle.eof_laws.specs.image_model.Volume.{inode, Volume}
 use Rattle.live_step_laws.specs.posix_laws.Orders.{AreOrdered-step_of}
 use Rattle.eof_laws.specs.file_table.Files.{ChangesFile, Files, runs_in, spare_in}
 use Rattle.eof_laws.specs.volume_laws.Changes.{inode-set_same}
 use Rattle.live_step_laws.specs.k_map_plans.Plans.{IsLiveFile}
-use Rattle.live_step_laws.proofs.k_plans_proofs.FreeCounts.{unwaiting-counted}
 use Rattle.live_step_laws.specs.k_plans.Whole.{IsWhole}
 use Rattle.eof_laws.specs.k_split_model.Spaces.{volume_space}
 use Rattle.eof_laws.specs.k_split_model.View.{View}
 use Rattle.live_step_laws.specs.k_split.declared.faults.KFault.{KFault}
 use Rattle.live_step_laws.specs.k_split.Answers.{IsDone, IsPaid}
 use Rattle.live_step_laws.specs.k_split.Looks.{IsFound}
-use Rattle.live_step_laws.specs.k_split.MapChanges.{free_blocks_in, IsSizeAnswer}
+use Rattle.live_step_laws.specs.k_split.MapChanges.{IsSizeAnswer}
 use Rattle.eof_laws.specs.k_split_model.MapChangesChanges.{with_size}
 use Rattle.eof_laws.specs.k_split_model.Taken.{with_map}
 use Rattle.live_step_laws.specs.live_model.Overlays.{run_of}
@@ -52,10 +52,10 @@ use Rattle.file_calls.proofs.OpenCalls.{files_opened, full_there, next_there, op
 use Rattle.file_calls.proofs.Running.{fault_ended, leads_end, loses_cut}
 
 -- While calls run, the reserve is there: a change of a map finds the blocks that it asks for.
-pub has_reserve : (k : View) (t : Tables) (fs : Files) → RunsInSome k t fs → reserve k.volume.geometry ≤ free_blocks_in k + 3
+pub has_reserve : (k : View) (t : Tables) (fs : Files) → RunsInSome k t fs → reserve k.volume.geometry ≤ unused_blocks k.volume + 3
 has_reserve k t fs some =
     let free = some.runs.flying.device.room.free in
-    omega (arith, free, unwaiting-counted (record { volume = k.volume; aside = []; waiting = k.waiting }) refl (some.runs.order.none_waits some.runs.unbatched))
+    omega (arith, free)
 
 pub live_file : (k : View) (ino : ℕ) → (inode k.volume ino).kind ≡ File → IsLiveFile ino k.volume
 live_file k ino file = record { below = used_below k.volume ino (ap is_used file); file = file }

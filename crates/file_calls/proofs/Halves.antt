@@ -1,12 +1,10 @@
 -- Calls of two changes: a file loses its name, or its last descriptor; then it goes, where it has neither.
-use Rattle.std.specs.Prelude.{◌≡◌, ◌≢◌, ◌⊎◌, ◌≤◌, ◌<◌, ◌+◌, ℕ, Bool, true, false, if◌then◌else◌, List, [], ◌∷◌, ◌++◌, length, map, Option, Some, None, Result, Ok, Err, IsTrue, ◌↔◌, refl}
+use Rattle.std.specs.Prelude.{◌≡◌, ◌≢◌, ◌⊎◌, ◌≤◌, ◌<◌, ◌+◌, ℕ, Bool, true, false, if◌then◌else◌, List, [], ◌∷◌, length, Option, Some, None, Result, Ok, Err, IsTrue, ◌↔◌, refl}
 use Rattle.std.proofs.Common.{arith, ap, ◌∙◌, sym, subst, inl, inr}
 use Rattle.std.proofs.lemmas.List.{length-set}
 use Rattle.live_step_laws.specs.world_image_laws.Settings.{keeps_setting, keeps_swept, setting_run}
-use Rattle.eof_laws.specs.pm_model.declared.Cell.{Cell}
 use Rattle.eof_laws.specs.pm_model.Images.{words_of}
 use Rattle.eof_laws.specs.pm_model.Powers.{is_on, Steps, Supply}
-use Rattle.eof_laws.specs.pm_model.Words.{Words}
 use Rattle.eof_laws.specs.layout_model.Journal.{journaled}
 use Rattle.eof_laws.specs.layout_model.Places.{Geometry}
 use Rattle.layout_model.specs.declared.lines.Kind.TheVariants.{File}
@@ -51,7 +49,7 @@ use Rattle.open_files.specs.posix_spec.Run.{after_call, run}
 use Rattle.open_files.specs.posix_spec.State.{alone, State, swept, unnamed as unnamed_state}
 use Rattle.open_files.specs.posix_spec.Tree.{tree}
 use Rattle.live_step_laws.specs.commute_laws.Commutes.{takes}
-use Rattle.live_step_laws.specs.world_model.Jobs.{unfinished_call, Job, live_claims}
+use Rattle.live_step_laws.specs.world_model.Jobs.{Job, live_claims}
 use Rattle.live_step_laws.specs.world_model.Stands.{is_used, number}
 use Rattle.live_step_laws.specs.world_image_laws.Back.{IsKeptBack}
 use Rattle.live_step_laws.specs.world_image_laws.LentLaws.{LeadsTo}

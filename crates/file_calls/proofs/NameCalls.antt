@@ -2,7 +2,7 @@
 use Rattle.std.specs.Prelude.{◌≡◌, ◌≢◌, ◌<◌, ◌+◌, ◌^◌, ℕ, Bool, true, false, List, [], length, Option, Some, None, Result, Ok, Err, refl, if◌then◌else◌}
 use Rattle.std.proofs.Common.{arith, ap, ◌∙◌, sym, subst, inl, inr}
 use Rattle.live_step_laws.specs.world_image_laws.Settings.{keeps_setting}
-use Rattle.eof_laws.specs.pm_model.Powers.{is_on, Supply}
+use Rattle.eof_laws.specs.pm_model.Powers.{is_on, Steps, Supply}
 use Rattle.eof_laws.specs.layout_model.Places.{Geometry}
 use Rattle.layout_model.specs.declared.lines.Kind.{Kind}
 use Rattle.layout_model.specs.declared.lines.Kind.TheVariants.{Directory, File, Free, Staging}
@@ -79,10 +79,10 @@ files_made directory p v w ino t is files =
 pub tables_renumbered : (numbers : List ℕ) (t : Tables) (ino m : ℕ) → ((i : ℕ) → is_open t i ≡ true → i ≢ ino) → numbered_as (number numbers) t ≡ numbered_as (number (renumbered numbers ino m)) t
 tables_renumbered numbers t ino m apart = same_where_open (number numbers) (number (renumbered numbers ino m)) t (λ i there. sym (renumbered-other numbers ino m i (apart i there)))
 
-directory_kind : (kind : Kind) → is_directory kind ≡ true → kind ≢ File
+pub directory_kind : (kind : Kind) → is_directory kind ≡ true → kind ≢ File
 directory_kind kind is same = let never : true ≡ false = sym is ∙ ap is_directory same in cc
 
-files_removed : (p : List (List ℕ)) (v w : Volume) (t : Tables) → IsRemoved p v w → ((i : ℕ) → is_open t i ≡ true → (inode v i).kind ≡ File) → (i : ℕ) → is_open t i ≡ true → (inode w i).kind ≡ File
+pub files_removed : (p : List (List ℕ)) (v w : Volume) (t : Tables) → IsRemoved p v w → ((i : ℕ) → is_open t i ≡ true → (inode v i).kind ≡ File) → (i : ℕ) → is_open t i ≡ true → (inode w i).kind ≡ File
 files_removed p v w t is files i there =
     let apart = not_open v t is.entry.child files (directory_kind (inode v is.entry.child).kind is.is_directory.is_directory) i there in
     subst (λ x. (inode x i).kind ≡ File) (sym is.is_removed) (ap (λ x. x.kind) ((removed-others is.entry.line is.entry.child v).inodes i (apart, tt)) ∙ files i there)
@@ -271,3 +271,7 @@ module _ (who : Who) (p q : List (List ℕ)) (k k2 : View) (t : Tables) (f : Fil
     by : (let r : Result (Option ℕ) KFault = Ok None in IsRenameAnswer p q k k2 r) → IsEnded who (Call.Rename p q) k t f k2 t f old new (Ok (Told.Answered (answer Reply.Ok)))
     by (inl same) = idle same is.1.0
     by (inr done) = moved (done, is.1)
+
+-- one change takes no more steps than two
+pub twice_as_many : (p q : Supply) → Steps 256 p q → Steps 512 p q
+twice_as_many p q steps = record { given = steps.given; on_before = steps.on_before; later = steps.later; bound = omega (arith, steps.bound) }

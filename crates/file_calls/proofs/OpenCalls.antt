@@ -27,7 +27,7 @@ use Rattle.live_step_laws.specs.k_split.Answers.{IsPaid}
 use Rattle.live_step_laws.specs.k_split.Looks.{IsFound}
 use Rattle.live_step_laws.specs.k_split.Names.{IsMakeAnswer, make_row}
 use Rattle.live_step_laws.specs.open_files.Numbered.{described_as, numbered_as}
-use Rattle.live_step_laws.proofs.open_files_proofs.Changes.{dups_alike, open_once_duped, open_once_opened, opens_alike}
+use Rattle.live_step_laws.proofs.open_files_proofs.Changes.{dups_alike, open_once_opened, opens_alike}
 use Rattle.live_step_laws.proofs.open_files_proofs.Lookups.{same_key, same_opened}
 use Rattle.posix_types.specs.declared.call.Call.{Call}
 use Rattle.posix_types.specs.declared.call.Who.{Who}
@@ -47,8 +47,7 @@ use Rattle.open_files.specs.posix_tables.Outcomes.{answer, first, row}
 use Rattle.open_files.specs.posix_spec.FileRows.{dup_rows}
 use Rattle.open_files.specs.posix_spec.Run.{after_call, run}
 use Rattle.open_files.specs.posix_spec.State.{alone, made as made_state, space, State, with_node}
-use Rattle.open_files.specs.posix_spec.Step.{dup_done, empty_file, is_busy, open_done, opening, opening_number, stat_done, stat_of, step, stepped}
-use Rattle.open_files.specs.posix_spec.Tree.{tree}
+use Rattle.open_files.specs.posix_spec.Step.{dup_done, empty_file, is_busy, open_done, opening, opening_number, stat_of, step, stepped}
 use Rattle.live_step_laws.specs.world_model.Stands.{is_used, IsUsed, NodeStands, number}
 use Rattle.live_step_laws.specs.world_model.Jobs.{live_claims}
 use Rattle.live_step_laws.specs.world_image_laws.Settings.{keeps_setting}
@@ -66,7 +65,7 @@ use Rattle.file_calls.specs.Runs.{RunsAs, with_files}
 use Rattle.file_calls.specs.declared.names.outcomes.Told.{Told}
 use Rattle.file_calls.proofs.NameCalls.{files_made, made_left, tables_renumbered, took}
 use Rattle.file_calls.proofs.Paths.{open_made_rows, used_at}
-use Rattle.file_calls.proofs.Running.{fault_ended, idle_on, leads_end, loses_cut, runs_still, world}
+use Rattle.file_calls.proofs.Running.{fault_ended, leads_end, loses_cut, runs_still, world}
 use Rattle.file_calls.proofs.Trees.{tree_shown}
 
 -- ---- what runs says of the volume and the state
@@ -103,11 +102,7 @@ module _ (g : Geometry) (k : View) (t : Tables) (x : Kept) (n : ℕ) (s : State)
 
 -- ---- stat
 
-pub stat_refused : (who : Who) (p : List (List ℕ)) (k : View) (t : Tables) (fs : Files) (errno : Errno) → IsFound k.volume p (Err errno) → (g : Geometry) (x : Kept) (n : ℕ) (s : State) → RunsAs g k t (with_files x fs) n s
-    → step s who (Call.Stat p) ≡ record { state = s; outcome = answer (Reply.Error errno) }
-stat_refused who p k t fs errno found g x n s runs = ap (λ o. stepped s o (stat_done s p)) (ap first (sym ((rows g k t (with_files x fs) n s runs).stat p)) ∙ found)
-
-stat_node : (v : Volume) (live : List Draft) (f : Words) (ino size : ℕ) (kind : Kind) (node : Node) → (kind ≡ File → size ≡ size_of v live ino) → NodeStands v live f ino kind node → stat_of node ≡ stat_by kind size
+pub stat_node : (v : Volume) (live : List Draft) (f : Words) (ino size : ℕ) (kind : Kind) (node : Node) → (kind ≡ File → size ≡ size_of v live ino) → NodeStands v live f ino kind node → stat_of node ≡ stat_by kind size
 stat_node v live f ino size Free node size_is is = absurd is
 stat_node v live f ino size Staging node size_is is = absurd is
 stat_node v live f ino size Directory Node.Gone size_is is = absurd is
@@ -117,32 +112,18 @@ stat_node v live f ino size File Node.Gone size_is is = absurd is
 stat_node v live f ino size File Node.Directory size_is is = absurd is
 stat_node v live f ino size File (Node.File file) size_is is = ap Stat.File (sym is.size ∙ sym (size_is refl))
 
-pub stat_found : (who : Who) (p : List (List ℕ)) (k : View) (t : Tables) (fs : Files) (ino : ℕ) → IsFound k.volume p (Ok ino) → (g : Geometry) (x : Kept) (n : ℕ) (s : State) → RunsAs g k t (with_files x fs) n s
-    → step s who (Call.Stat p) ≡ record { state = s; outcome = answer (Reply.Stat (stat_by (inode k.volume ino).kind (size_in fs ino))) }
-unfolding stat_done
-stat_found who p k t fs ino found g x n s runs =
-    ap (λ o. stepped s o (stat_done s p)) (ap first (sym ((rows g k t (with_files x fs) n s runs).stat p)) ∙ found.0)
-    ∙ ap (λ y. record { state = s; outcome = answer (Reply.Stat y) })
-    (ap (λ m. stat_of (node_at s.nodes m)) (number_there g k t (with_files x fs) n s runs p ino found.1)
-    ∙ stat_node k.volume (live_claims k.volume x.claims) (journaled (words_of k.cells)) ino (size_in fs ino) (inode k.volume ino).kind (node_at s.nodes (number runs.numbers ino)) (size_there g k t (with_files x fs) n s runs ino)
-    (node_stands g k t (with_files x fs) n s runs ino (used_there g k t (with_files x fs) n s runs p ino found.1)))
-
 -- ---- dup
 
-dup_state : (s : State) (who : Who) (h to : Handle) → first (dup_rows s.tables who h) ≡ None → step s who (Call.Dup h to) ≡ dup_done s who h to
+pub dup_state : (s : State) (who : Who) (h to : Handle) → first (dup_rows s.tables who h) ≡ None → step s who (Call.Dup h to) ≡ dup_done s who h to
 dup_state s who h to none = ap (λ o. stepped s o (dup_done s who h to)) none
 
-dup_row : (g : Geometry) (k : View) (t : Tables) (x : Kept) (n : ℕ) (s : State) (who : Who) (h : Handle) → RunsAs g k t x n s → first (dup_rows s.tables who h) ≡ first (dup_rows t who h)
+pub dup_row : (numbers : List ℕ) (t : Tables) (s : State) (who : Who) (h : Handle) → s.tables ≡ numbered_as (number numbers) t → first (dup_rows s.tables who h) ≡ first (dup_rows t who h)
 unfolding dup_rows
-dup_row g k t x n s who h runs =
-    ap (λ y. first (dup_rows y who h)) runs.tables ∙ ap (λ o. first (row o Errno.EBADF ∷ row (is_full t) Errno.EMFILE ∷ [])) (ap is_none (same_opened (number runs.numbers) t who h) ∙ mapped (opened t who h)) where
-      mapped : (o : Option Description) → is_none (option_map (described_as (number runs.numbers)) o) ≡ is_none o
+dup_row numbers t s who h tables =
+    ap (λ y. first (dup_rows y who h)) tables ∙ ap (λ o. first (row o Errno.EBADF ∷ row (is_full t) Errno.EMFILE ∷ [])) (ap is_none (same_opened (number numbers) t who h) ∙ mapped (opened t who h)) where
+      mapped : (o : Option Description) → is_none (option_map (described_as (number numbers)) o) ≡ is_none o
       mapped None = refl
       mapped (Some d) = refl
-
-pub dup_refused : (who : Who) (h to : Handle) (k : View) (t : Tables) (fs : Files) (errno : Errno) → first (dup_rows t who h) ≡ Some (answer (Reply.Error errno)) → (g : Geometry) (x : Kept) (n : ℕ) (s : State)
-    → RunsAs g k t (with_files x fs) n s → step s who (Call.Dup h to) ≡ record { state = s; outcome = answer (Reply.Error errno) }
-dup_refused who h to k t fs errno is g x n s runs = ap (λ o. stepped s o (dup_done s who h to)) (dup_row g k t (with_files x fs) n s who h runs ∙ is)
 
 pub unknown_dup : (t : Tables) (who : Who) (h : Handle) → opened t who h ≡ None → first (dup_rows t who h) ≡ Some (answer (Reply.Error Errno.EBADF))
 unfolding dup_rows
@@ -155,31 +136,14 @@ known_dup t who h known = by (opened t who h) known where
   by None never = cc
   by (Some d) is = refl
 
-module _ (who : Who) (h to : Handle) (k : View) (t t2 : Tables) (fs : Files) (fd : ℕ) (old new : Supply) (known : IsSome (opened t who h)) (free : free_descriptor t ≡ Some fd) (t2_is : t2 ≡ with_descriptor t who to (unwrap_or (key_of t who h) 0)) where
-  no_dup_row : (g : Geometry) (x : Kept) (n : ℕ) (s : State) → RunsAs g k t x n s → first (dup_rows s.tables who h) ≡ None
-  no_dup_row g x n s runs = dup_row g k t x n s who h runs ∙ known_dup t who h known ∙ ap (λ (o : Option ℕ). first (row (is_none o) Errno.EMFILE ∷ [])) free
-
-  dup_step : (g : Geometry) (x : Kept) (n : ℕ) (s : State) → RunsAs g k t x n s → step s who (Call.Dup h to) ≡ dup_done s who h to
-  dup_step g x n s runs = dup_state s who h to (no_dup_row g x n s runs)
-
-  dup_tables : (g : Geometry) (x : Kept) (n : ℕ) (s : State) → (runs : RunsAs g k t x n s) → (after_call s (who, Call.Dup h to)).tables ≡ numbered_as (number runs.numbers) t2
-  unfolding dup_done
-  dup_tables g x n s runs =
-      ap (λ y. y.state.tables) (dup_step g x n s runs) ∙ ap (λ y. with_descriptor y who to (unwrap_or (key_of y who h) 0)) runs.tables
-      ∙ ap (λ o. with_descriptor (numbered_as (number runs.numbers) t) who to (unwrap_or o 0)) (same_key (number runs.numbers) t who h)
-      ∙ sym (dups_alike (number runs.numbers) t who to (unwrap_or (key_of t who h) 0)) ∙ ap (numbered_as (number runs.numbers)) (sym t2_is)
-
-  dup_answers : Answers who (Call.Dup h to) k t fs k t2 fs (answer (Reply.Fd fd))
-  unfolding dup_done
-  dup_answers g x n s small runs lets = (
-    idle_on g k t t2 (with_files x fs) n s who (Call.Dup h to) runs tt lets (dup_tables g (with_files x fs) n s runs)
-        (λ i there. runs.open_are_files i (sym (open_once_duped t who to (unwrap_or (key_of t who h) 0) i) ∙ (ap (λ y. is_open y i) (sym t2_is) ∙ there))),
-    ap (λ y. y.outcome) (dup_step g (with_files x fs) n s runs) ∙ ap (λ m. answer (Reply.Fd m)) (next_there g k t (with_files x fs) n s runs fd free),
-  )
-
-  pub dup_ended : is_on new ≡ true → IsEnded who (Call.Dup h to) k t fs k t2 fs old new (Ok (Told.Answered (answer (Reply.Fd fd))))
-  unfolding dup_done
-  dup_ended on = (dup_answers, on, λ g x n s runs. inl (ap (λ y. tree y.state) (dup_step g (with_files x fs) n s runs)))
+-- the tables behind it
+pub tables_duped : (numbers : List ℕ) (t t2 : Tables) (s : State) (who : Who) (h to : Handle) → t2 ≡ with_descriptor t who to (unwrap_or (key_of t who h) 0) → s.tables ≡ numbered_as (number numbers) t
+    → (dup_done s who h to).state.tables ≡ numbered_as (number numbers) t2
+unfolding dup_done
+tables_duped numbers t t2 s who h to t2_is tables =
+    ap (λ y. with_descriptor y who to (unwrap_or (key_of y who h) 0)) tables
+    ∙ ap (λ o. with_descriptor (numbered_as (number numbers) t) who to (unwrap_or o 0)) (same_key (number numbers) t who h)
+    ∙ sym (dups_alike (number numbers) t who to (unwrap_or (key_of t who h) 0)) ∙ ap (numbered_as (number numbers)) (sym t2_is)
 
 -- ---- open
 
@@ -281,9 +245,16 @@ module _ (who : Who) (h : Handle) (p : List (List ℕ)) (f : Flags) (k : View) (
       ap (λ y. y.outcome) (open_step who h p f k t none g (with_files x fs) n s runs) ∙ ap (λ i. answer (Reply.Fd i)) (next_there g k t (with_files x fs) n s runs fd free),
     )
 
+-- what is made is a file
+pub new_file : (p : List (List ℕ)) (v w : Volume) (ino : ℕ) → IsMade false p v w ino → (inode w ino).kind ≡ File
+new_file p v w ino is =
+    let free = free-found v.inodes is.place.ino is.is_place.room.ino in
+    subst (λ i. (inode w i).kind ≡ File) (sym is.ino_is)
+    (subst (λ (x : Volume). (inode x is.place.ino).kind ≡ File) (sym is.is_made) (ap (λ x. x.kind) (made-inode File is.place.ino is.place.line (row_to p is.place.parent is.place.ino) v free.within)))
+
 -- A MISSING FILE is made and opened.
 module _ (who : Who) (h : Handle) (p : List (List ℕ)) (f : Flags) (k : View) (t : Tables) (fs : Files) (spelled : AreSpelled p) (missing_is : IsMissing k.volume p) (create : f.create ≡ true) (unfull : is_full t ≡ false) where
-  same_rows : first (open_rows (volume_space k.volume) (is_full t) false p f) ≡ make_row p k
+  pub same_rows : first (open_rows (volume_space k.volume) (is_full t) false p f) ≡ make_row p k
   same_rows = ap (λ b. first (open_rows (volume_space k.volume) b false p f)) unfull ∙ open_made_rows (volume_space k.volume) p f missing_is.short missing_is.walked missing_is.none create
 
   created_step : (w : Volume) (ino : ℕ) → make_row p k ≡ None → IsMade false p k.volume w ino → (g : Geometry) (x : Kept) (n : ℕ) (s : State) → n + 1 < 2 ^ 31 → (runs : RunsAs g k t x n s)
@@ -292,12 +263,6 @@ module _ (who : Who) (h : Handle) (p : List (List ℕ)) (f : Flags) (k : View) (
   created_step w ino none is g x n s small runs lets =
       steps_opened k.volume k.cells x.claims runs.jobs runs.numbers s runs.count who h p f w ino runs.flying.device lets (omega (arith, small, runs.few)) spelled
       (ap (λ full. first (open_rows (volume_space k.volume) full false p f)) (full_there g k t x n s runs) ∙ same_rows ∙ none) is
-
-  new_kind : (w : Volume) (ino : ℕ) → IsMade false p k.volume w ino → (inode w ino).kind ≡ File
-  new_kind w ino is =
-      let free = free-found k.volume.inodes is.place.ino is.is_place.room.ino in
-      subst (λ i. (inode w i).kind ≡ File) (sym is.ino_is)
-      (subst (λ x. (inode x is.place.ino).kind ≡ File) (sym is.is_made) (ap (λ x. x.kind) (made-inode File is.place.ino is.place.line (row_to p is.place.parent is.place.ino) k.volume free.within)))
 
   created_tables : (k2 : View) (t2 : Tables) (ino : ℕ) → make_row p k ≡ None → IsMade false p k.volume k2.volume ino → t2 ≡ with_opened t who h (opening_of ino f) → (g : Geometry) (x : Kept) (n : ℕ) (s : State)
       → (runs : RunsAs g k t x n s) → (after_call s (who, Call.Open h p f)).tables ≡ numbered_as (number (renumbered runs.numbers ino (length s.nodes))) t2
@@ -318,7 +283,7 @@ module _ (who : Who) (h : Handle) (p : List (List ℕ)) (f : Flags) (k : View) (
     answers g x n s small runs lets = (
       (stands_on g k k2 t t2 (with_files x fs) fs true n (n + 1) s (after_call s (who, Call.Open h p f)) (renumbered runs.numbers ino (length s.nodes)) (runs.count + 1) (Some ino) runs is.0.2
           (created_step k2.volume ino is.0.0 is.0.1 g (with_files x fs) n s small runs lets) (keeps_setting s (who, Call.Open h p f)).mode (omega (arith, runs.few)) (omega arith) (created_tables k2 t2 ino is.0.0 is.0.1 t2_is g (with_files x fs) n s runs)
-          (files_opened k2 t t2 who h ino f t2_is (files_made false p k.volume k2.volume ino t is.0.1 runs.open_are_files).1 (new_kind k2.volume ino is.0.1)) (AreOrdered-step_of alone s who (Call.Open h p f) runs.ordered)
+          (files_opened k2 t t2 who h ino f t2_is (files_made false p k.volume k2.volume ino t is.0.1 runs.open_are_files).1 (new_file p k.volume k2.volume ino is.0.1)) (AreOrdered-step_of alone s who (Call.Open h p f) runs.ordered)
           (made_left false p g k t (with_files x fs) n s runs k2.volume ino is.0.1)).0,
       ap (λ y. y.outcome) (open_step who h p f k t (same_rows ∙ is.0.0) g (with_files x fs) n s runs) ∙ ap (λ i. answer (Reply.Fd i)) (next_there g k t (with_files x fs) n s runs fd free),
     )

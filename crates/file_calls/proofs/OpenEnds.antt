@@ -1,4 +1,4 @@
--- How `open`, `dup`, `close` and `stat` end, each answer.
+-- How an `open` ends that is refused, in each mode; and what a path leads to.
 use Rattle.std.specs.Prelude.{◌≡◌, ◌&&◌, not, nat_lt, ℕ, Bool, true, false, List, [], ◌∷◌, Some, None, is_none, Ok, Err, refl, if◌then◌else◌}
 use Rattle.std.proofs.Common.{arith, ap, ◌∙◌, sym, subst}
 use Rattle.std.proofs.lemmas.Bool.{ltb-false}
@@ -13,34 +13,36 @@ use Rattle.live_step_laws.specs.k_plans.View.{node_at as inode_at}
 use Rattle.eof_laws.specs.k_split_model.Spaces.{is_directory_in, is_free, volume_space}
 use Rattle.eof_laws.specs.k_split_model.View.{View}
 use Rattle.live_step_laws.specs.k_split.Looks.{IsFound, IsLed}
-use Rattle.open_files.specs.State.{IsDupFault, IsOpenFault, OpenState}
+use Rattle.open_files.specs.State.{IsOpenFault, OpenState}
 use Rattle.open_files.specs.declared.files.faults.OpenFault.{OpenFault}
 use Rattle.posix_types.specs.declared.call.Call.{Call}
 use Rattle.posix_types.specs.declared.call.Who.{Who}
 use Rattle.posix_types.specs.declared.handle.Flags.{Flags}
 use Rattle.posix_types.specs.declared.handle.Handle.{Handle}
+use Rattle.posix_types.specs.declared.item.Item.{Item}
+use Rattle.posix_types.specs.declared.item.Outcome.{Outcome}
 use Rattle.posix_types.specs.declared.reply.Errno.{Errno}
 use Rattle.posix_types.specs.declared.reply.Reply.{Reply}
 use Rattle.posix_types.specs.declared.reply.Stat.{Stat}
 use Rattle.open_files.specs.posix_tables.NameRows.{no_line, no_node, open_rows}
 use Rattle.open_files.specs.posix_tables.Open.{free_descriptor, is_full, Tables, with_opened}
 use Rattle.open_files.specs.posix_tables.Outcomes.{answer, first, row}
+use Rattle.open_files.specs.posix_spec.Put.{put_by}
+use Rattle.open_files.specs.posix_spec.Run.{after_call}
+use Rattle.open_files.specs.posix_spec.State.{alone, space, State}
+use Rattle.open_files.specs.posix_spec.Step.{is_busy, open_done, step, stepped}
+use Rattle.live_step_laws.specs.crash_spec.Posix.{is_fsync, is_ok}
 use Rattle.live_step_laws.specs.k_split_laws.Steps.{plain_file}
+use Rattle.batch_laws.specs.Changes.{PutsNone}
+use Rattle.batch_laws.specs.QuietLaws.{still_puts_none}
 use Rattle.file_calls.specs.Answers.{IsEnded, IsMissing, stat_by, told_of_open}
+use Rattle.file_calls.specs.Gathers.{IsItemOf}
 use Rattle.file_calls.specs.Runs.{RunsInSome, with_files}
 use Rattle.file_calls.specs.declared.names.outcomes.Told.{Told}
-use Rattle.file_calls.proofs.OpenCalls.{dup_refused, known_dup, open_refused, opened_ended, opening_of, stat_found, stat_refused, unknown_dup, used_there}
+use Rattle.file_calls.proofs.Alike.{EndsAlike, stays_alike}
+use Rattle.file_calls.proofs.OpenCalls.{opened_ended, opening_of, used_there}
 use Rattle.file_calls.proofs.Paths.{found_rows, missing, open_lost_rows, open_missing_rows, open_there_rows, parent_rows}
-use Rattle.file_calls.proofs.Running.{nothing_ended}
-
--- ---- stat
-
-module _ (who : Who) (p : List (List ℕ)) (k : View) (t : Tables) (fs : Files) (power : Supply) (on : is_on power ≡ true) where
-  pub stat_lost : (errno : Errno) → IsFound k.volume p (Err errno) → IsEnded who (Call.Stat p) k t fs k t fs power power (Ok (Told.Answered (answer (Reply.Error errno))))
-  stat_lost errno found = nothing_ended who (Call.Stat p) k k t fs (answer (Reply.Error errno)) power power refl on (stat_refused who p k t fs errno found)
-
-  pub stat_seen : (ino : ℕ) → IsFound k.volume p (Ok ino) → IsEnded who (Call.Stat p) k t fs k t fs power power (Ok (Told.Answered (answer (Reply.Stat (stat_by (inode k.volume ino).kind (size_in fs ino))))))
-  stat_seen ino found = nothing_ended who (Call.Stat p) k k t fs (answer (Reply.Stat (stat_by (inode k.volume ino).kind (size_in fs ino)))) power power refl on (stat_found who p k t fs ino found)
+use Rattle.file_calls.proofs.Seen.{IsSeenAs, rows_seen}
 
 -- an inode that is there, and one that is free
 some_line : (b : Bool) (y x : Inode) → (if b then None else Some y) ≡ Some x → x ≡ y
@@ -82,34 +84,54 @@ pub plain_found : (k : View) (t : Tables) (fs : Files) (p : List (List ℕ)) (in
 plain_found k t fs p ino some found plain =
     plain_file (inode k.volume ino).kind (used_there some.geometry_is k t (with_files some.kept fs) some.made some.state some.runs p ino found.1) plain
 
-module _ (who : Who) (h : Handle) (p : List (List ℕ)) (f : Flags) (k : View) (t : Tables) (fs : Files) (power : Supply) (on : is_on power ≡ true) where
-  -- a row refuses it
-  open_by_row : (errno : Errno) → first (open_rows (volume_space k.volume) (is_full t) false p f) ≡ Some (answer (Reply.Error errno))
-      → IsEnded who (Call.Open h p f) k t fs k t fs power power (Ok (Told.Answered (answer (Reply.Error errno))))
-  open_by_row errno row_is = nothing_ended who (Call.Open h p f) k k t fs (answer (Reply.Error errno)) power power refl on (open_refused who h p f k t fs (answer (Reply.Error errno)) row_is)
+-- an `open` behind which all nodes are as they were puts nothing
+open_puts_none : (h : Handle) (p : List (List ℕ)) (f : Flags) (s : State) (item : Item) → item.call ≡ Call.Open h p f → (after_call s (item.who, item.call)).nodes ≡ s.nodes → PutsNone s item
+unfolding put_by
+open_puts_none h p f s item is same = still_puts_none s item same (ap (put_by s item.who) is) (ap (λ c. is_fsync c && is_ok item.reply) is)
 
-  pub open_lost : (errno : Errno) → IsLed k.volume p (Err errno) → IsEnded who (Call.Open h p f) k t fs k t fs power power (Ok (Told.Answered (answer (Reply.Error errno))))
+module _ (who : Who) (h : Handle) (p : List (List ℕ)) (f : Flags) (k : View) (t : Tables) (fs : Files) where
+  -- its rows in the state
+  row_seen : (s : State) (seen : IsSeenAs k t fs s) → first (open_rows (space s) (is_full s.tables) (is_busy alone s p) p f) ≡ first (open_rows (volume_space k.volume) (is_full t) false p f)
+  row_seen s seen = ap (λ full. first (open_rows (space s) full false p f)) (ap is_full seen.tables) ∙ ap first (sym ((rows_seen k t fs s seen).open_ (is_full t) false p f))
+
+  pub refused_seen : (o : Outcome) → first (open_rows (volume_space k.volume) (is_full t) false p f) ≡ Some o → (s : State) → IsSeenAs k t fs s → step s who (Call.Open h p f) ≡ record { state = s; outcome = o }
+  refused_seen o is s seen = ap (λ y. stepped s y (open_done s who h p f)) (row_seen s seen ∙ is)
+
+  pub step_seen : first (open_rows (volume_space k.volume) (is_full t) false p f) ≡ None → (s : State) → IsSeenAs k t fs s → step s who (Call.Open h p f) ≡ open_done s who h p f
+  step_seen none s seen = ap (λ y. stepped s y (open_done s who h p f)) (row_seen s seen ∙ none)
+
+  pub opens_quietly : (o : Outcome) (s : State) (item : Item) → IsItemOf who (Call.Open h p f) o item → (step s who (Call.Open h p f)).state.nodes ≡ s.nodes → PutsNone s item
+  opens_quietly o s item item_is same = open_puts_none h p f s item item_is.1 ((λ i. (step s (item_is.0 i) (item_is.1 i)).state.nodes) ∙ same)
+
+  pub refused_puts : (o : Outcome) → first (open_rows (volume_space k.volume) (is_full t) false p f) ≡ Some o → (s : State) (item : Item) → IsSeenAs k t fs s → IsItemOf who (Call.Open h p f) o item → PutsNone s item
+  refused_puts o is s item seen item_is = opens_quietly o s item item_is (ap (λ y. y.state.nodes) (refused_seen o is s seen))
+
+  -- a row refuses it
+  open_by_row : (errno : Errno) → first (open_rows (volume_space k.volume) (is_full t) false p f) ≡ Some (answer (Reply.Error errno)) → EndsAlike who (Call.Open h p f) k t t fs (Ok (Told.Answered (answer (Reply.Error errno))))
+  open_by_row errno row_is = stays_alike who (Call.Open h p f) k t fs (answer (Reply.Error errno)) (refused_puts (answer (Reply.Error errno)) row_is) (refused_seen (answer (Reply.Error errno)) row_is)
+
+  pub open_lost : (errno : Errno) → IsLed k.volume p (Err errno) → EndsAlike who (Call.Open h p f) k t t fs (Ok (Told.Answered (answer (Reply.Error errno))))
   open_lost errno lost = open_by_row errno (open_lost_rows k.volume (is_full t) p f errno lost)
 
-  there_rows : (ino : ℕ) → IsFound k.volume p (Ok ino)
+  pub there_rows : (ino : ℕ) → IsFound k.volume p (Ok ino)
       → first (open_rows (volume_space k.volume) (is_full t) false p f) ≡ first (row (f.create && f.exclusive) Errno.EEXIST ∷ row (is_directory_in k.volume.inodes ino) Errno.EISDIR ∷ row (is_full t) Errno.EMFILE ∷ [])
   there_rows ino found = let rows_are = found_rows k.volume p ino found in open_there_rows (volume_space k.volume) (is_full t) p f ino rows_are.0 rows_are.1 found.1
 
-  pub open_exists : (ino : ℕ) → IsFound k.volume p (Ok ino) → (f.create && f.exclusive) ≡ true → IsEnded who (Call.Open h p f) k t fs k t fs power power (Ok (Told.Answered (answer (Reply.Error Errno.EEXIST))))
+  pub open_exists : (ino : ℕ) → IsFound k.volume p (Ok ino) → (f.create && f.exclusive) ≡ true → EndsAlike who (Call.Open h p f) k t t fs (Ok (Told.Answered (answer (Reply.Error Errno.EEXIST))))
   open_exists ino found exclusive =
       open_by_row Errno.EEXIST (there_rows ino found ∙ ap (λ b. first (row b Errno.EEXIST ∷ row (is_directory_in k.volume.inodes ino) Errno.EISDIR ∷ row (is_full t) Errno.EMFILE ∷ [])) exclusive)
 
   pub open_directory : (ino : ℕ) → IsFound k.volume p (Ok ino) → (f.create && f.exclusive) ≡ false → is_directory_in k.volume.inodes ino ≡ true
-      → IsEnded who (Call.Open h p f) k t fs k t fs power power (Ok (Told.Answered (answer (Reply.Error Errno.EISDIR))))
+      → EndsAlike who (Call.Open h p f) k t t fs (Ok (Told.Answered (answer (Reply.Error Errno.EISDIR))))
   open_directory ino found shared directory =
       open_by_row Errno.EISDIR (there_rows ino found ∙ (λ i. first (row (shared i) Errno.EEXIST ∷ row (directory i) Errno.EISDIR ∷ row (is_full t) Errno.EMFILE ∷ [])))
 
   pub open_found_full : (ino : ℕ) → IsFound k.volume p (Ok ino) → (f.create && f.exclusive) ≡ false → is_directory_in k.volume.inodes ino ≡ false → is_full t ≡ true
-      → IsEnded who (Call.Open h p f) k t fs k t fs power power (Ok (Told.Answered (answer (Reply.Error Errno.EMFILE))))
+      → EndsAlike who (Call.Open h p f) k t t fs (Ok (Told.Answered (answer (Reply.Error Errno.EMFILE))))
   open_found_full ino found shared plain full =
       open_by_row Errno.EMFILE (there_rows ino found ∙ (λ i. first (row (shared i) Errno.EEXIST ∷ row (plain i) Errno.EISDIR ∷ row (full i) Errno.EMFILE ∷ [])))
 
-  free_unfull : (fd : ℕ) → free_descriptor t ≡ Some fd → is_full t ≡ false
+  pub free_unfull : (fd : ℕ) → free_descriptor t ≡ Some fd → is_full t ≡ false
   free_unfull fd free = ap is_none free
 
   -- no row does
@@ -118,49 +140,33 @@ module _ (who : Who) (h : Handle) (p : List (List ℕ)) (f : Flags) (k : View) (
   open_found_none ino found shared file unfull =
       there_rows ino found ∙ (λ i. first (row (shared i) Errno.EEXIST ∷ row (is_directory (file i)) Errno.EISDIR ∷ row (unfull i) Errno.EMFILE ∷ []))
 
-  pub open_found_done : (ino fd : ℕ) (t2 : Tables) → IsFound k.volume p (Ok ino) → (f.create && f.exclusive) ≡ false → (inode k.volume ino).kind ≡ File → (f.truncate ≡ true → size_in fs ino ≡ 0)
+  pub open_found_done : (ino fd : ℕ) (t2 : Tables) (power : Supply) → is_on power ≡ true → IsFound k.volume p (Ok ino) → (f.create && f.exclusive) ≡ false → (inode k.volume ino).kind ≡ File → (f.truncate ≡ true → size_in fs ino ≡ 0)
       → free_descriptor t ≡ Some fd → t2 ≡ with_opened t who h (opening_of ino f) → IsEnded who (Call.Open h p f) k t fs k t2 fs power power (Ok (Told.Answered (answer (Reply.Fd fd))))
-  open_found_done ino fd t2 found shared file stays free t2_is =
+  open_found_done ino fd t2 power on found shared file stays free t2_is =
       opened_ended who h p f k t fs ino found file stays t2 fd power power (open_found_none ino found shared file (free_unfull fd free)) free t2_is on
 
   -- the open files refuse it
   pub open_found_fault : (ino : ℕ) (t2 : Tables) (files : OpenState) (fault : OpenFault) → files.tables ≡ t → t2 ≡ t → IsFound k.volume p (Ok ino) → (f.create && f.exclusive) ≡ false → is_directory_in k.volume.inodes ino ≡ false
-      → IsOpenFault files fault → IsEnded who (Call.Open h p f) k t fs k t2 fs power power (told_of_open fault)
+      → IsOpenFault files fault → EndsAlike who (Call.Open h p f) k t t2 fs (told_of_open fault)
   open_found_fault ino t2 files (OpenFault.Full count) files_are t2_is found shared plain is =
-      subst (λ x. IsEnded who (Call.Open h p f) k t fs k x fs power power (Ok (Told.Answered (answer (Reply.Error Errno.EMFILE))))) (sym t2_is)
+      subst (λ x. EndsAlike who (Call.Open h p f) k t x fs (Ok (Told.Answered (answer (Reply.Error Errno.EMFILE))))) (sym t2_is)
       (open_found_full ino found shared plain (ap is_full (sym files_are) ∙ is.1))
   open_found_fault ino t2 files OpenFault.NotOpen files_are t2_is found shared plain is = absurd is
-  open_found_fault ino t2 files OpenFault.NoMemory files_are t2_is found shared plain is = (refl, t2_is, refl, refl)
+  open_found_fault ino t2 files OpenFault.NoMemory files_are t2_is found shared plain is = record { ended = λ power on. (refl, t2_is, refl, refl); gathers = λ a power on. on }
 
-  missing_rows : IsMissing k.volume p
+  pub missing_rows : IsMissing k.volume p
       → first (open_rows (volume_space k.volume) (is_full t) false p f) ≡ first (row (not f.create) Errno.ENOENT ∷ row (is_full t) Errno.EMFILE ∷ no_node (volume_space k.volume) ∷ no_line (volume_space k.volume) p ∷ [])
   missing_rows is = open_missing_rows (volume_space k.volume) (is_full t) p f is.short is.walked is.none
 
-  pub open_missing_stays : IsMissing k.volume p → f.create ≡ false → IsEnded who (Call.Open h p f) k t fs k t fs power power (Ok (Told.Answered (answer (Reply.Error Errno.ENOENT))))
+  pub open_missing_stays : IsMissing k.volume p → f.create ≡ false → EndsAlike who (Call.Open h p f) k t t fs (Ok (Told.Answered (answer (Reply.Error Errno.ENOENT))))
   open_missing_stays is create =
       open_by_row Errno.ENOENT
       (missing_rows is ∙ ap (λ b. first (row (not b) Errno.ENOENT ∷ row (is_full t) Errno.EMFILE ∷ no_node (volume_space k.volume) ∷ no_line (volume_space k.volume) p ∷ [])) create)
 
-  pub open_missing_full : IsMissing k.volume p → f.create ≡ true → is_full t ≡ true → IsEnded who (Call.Open h p f) k t fs k t fs power power (Ok (Told.Answered (answer (Reply.Error Errno.EMFILE))))
+  pub open_missing_full : IsMissing k.volume p → f.create ≡ true → is_full t ≡ true → EndsAlike who (Call.Open h p f) k t t fs (Ok (Told.Answered (answer (Reply.Error Errno.EMFILE))))
   open_missing_full is create full =
       open_by_row Errno.EMFILE
       (missing_rows is ∙ (λ i. first (row (not (create i)) Errno.ENOENT ∷ row (full i) Errno.EMFILE ∷ no_node (volume_space k.volume) ∷ no_line (volume_space k.volume) p ∷ [])))
-
--- ---- dup
-
-pub dup_fault : (who : Who) (h to : Handle) (k : View) (t t2 : Tables) (fs : Files) (files : OpenState) (fault : OpenFault) (power : Supply) → is_on power ≡ true → files.tables ≡ t → t2 ≡ t → IsDupFault files who h fault
-    → IsEnded who (Call.Dup h to) k t fs k t2 fs power power (told_of_open fault)
-dup_fault who h to k t t2 fs files fault power on files_are t2_is is =
-    subst (λ x. IsEnded who (Call.Dup h to) k t fs k x fs power power (told_of_open fault)) (sym t2_is)
-    (subst (λ x. IsEnded who (Call.Dup h to) k x fs k x fs power power (told_of_open fault)) files_are (by fault is)) where
-      by : (e : OpenFault) → IsDupFault files who h e → IsEnded who (Call.Dup h to) k files.tables fs k files.tables fs power power (told_of_open e)
-      by (OpenFault.Full count) why =
-          nothing_ended who (Call.Dup h to) k k files.tables fs (answer (Reply.Error Errno.EMFILE)) power power refl on
-          (dup_refused who h to k files.tables fs Errno.EMFILE (known_dup files.tables who h why.0 ∙ ap (λ b. first (row b Errno.EMFILE ∷ [])) why.1.1))
-      by OpenFault.NotOpen why =
-          nothing_ended who (Call.Dup h to) k k files.tables fs (answer (Reply.Error Errno.EBADF)) power power refl on
-          (dup_refused who h to k files.tables fs Errno.EBADF (unknown_dup files.tables who h why))
-      by OpenFault.NoMemory why = (refl, refl, refl, refl)
 
 -- with room and a free descriptor the open files refuse nothing
 pub no_open_fault : (files : OpenState) (fault : OpenFault) → is_full files.tables ≡ false → files.has_room ≡ true → IsOpenFault files fault → ⊥

@@ -1,5 +1,5 @@
 -- One change of K-Split in a call: done, refused, or cut off, beside jobs that are out.
-use Rattle.std.specs.Prelude.{◌≡◌, ◌≢◌, ◌⊎◌, ◌≤◌, ◌<◌, ◌+◌, ◌^◌, ℕ, suc, true, AllPairs, length, slice_index_or, List, [], ◌∷◌, ◌++◌, map, Option, Some, None, Result, Err, refl}
+use Rattle.std.specs.Prelude.{◌≡◌, ◌≢◌, ◌⊎◌, ◌≤◌, ◌<◌, ◌+◌, ◌^◌, ℕ, suc, true, AllPairs, length, slice_index_or, List, [], ◌∷◌, Option, Some, None, Result, Err, refl}
 use Rattle.std.proofs.Common.{arith, ap, ◌∙◌, sym, subst, inl, inr}
 use Rattle.eof_laws.specs.pm_model.ImageLaws.{IsImage-words_of}
 use Rattle.eof_laws.specs.pm_model.Images.{words_of}
@@ -36,7 +36,7 @@ use Rattle.open_files.specs.commute_laws.Needs.{IsApart, needs}
 use Rattle.live_step_laws.specs.commute_laws.Commutes.{takes}
 use Rattle.live_step_laws.specs.commute_laws.Orders.{AreTwoEach}
 use Rattle.open_files.specs.posix_laws.Views.{AreAfforded}
-use Rattle.live_step_laws.specs.world_model.Jobs.{ApartFrom, unfinished_call, Job, JobsStand, JobStands, live_claims}
+use Rattle.live_step_laws.specs.world_model.Jobs.{ApartFrom, Job, JobsStand, JobStands, live_claims}
 use Rattle.live_step_laws.specs.world_model.Stands.{number}
 use Rattle.live_step_laws.specs.world_model.JobLaws.{live_used}
 use Rattle.live_step_laws.specs.world_image_laws.Changed.{sound_headed}

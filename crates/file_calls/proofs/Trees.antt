@@ -25,6 +25,10 @@ tree_shown s new same =
     (λ i. tree (record new { entries = same.entries i }))
     ∙ of_nodes s new.nodes (λ n. sym (of_shown (node_at new.nodes n)) ∙ (ap tree_node (same.nodes n) ∙ of_shown (node_at s.nodes n)))
 
+-- names and nodes are the same
+pub tree_still : (s new : State) → new.nodes ≡ s.nodes → new.entries ≡ s.entries → tree new ≡ tree s
+tree_still s new nodes entries = λ i. tree (record new { nodes = nodes i; entries = entries i })
+
 -- a published length is in no tree
 published_shown : (nodes : List Node) (n k : ℕ) → tree_node (node_at (slice_set nodes n (published_node (node_at nodes n))) k) ≡ tree_node (node_at nodes k)
 published_shown [] n k = refl

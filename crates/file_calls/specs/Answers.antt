@@ -1,5 +1,5 @@
 -- What a call over K-Split and the open files answers and leaves.
-use Rattle.std.specs.Prelude.{◌≡◌, ◌⊎◌, ◌<◌, ◌+◌, ◌^◌, ℕ, true, false, List, [], ◌∷◌, length, Option, Some, None, Result, Ok, Err, if◌then◌else◌}
+use Rattle.std.specs.Prelude.{◌≡◌, ◌⊎◌, ◌<◌, ◌+◌, ◌^◌, ℕ, true, false, List, [], ◌∷◌, length, Some, None, Result, Ok, Err, if◌then◌else◌}
 use Rattle.eof_laws.specs.pm_model.Frames.{SameLent}
 use Rattle.eof_laws.specs.pm_model.Powers.{is_on, Supply}
 use Rattle.eof_laws.specs.layout_model.Places.{Geometry}

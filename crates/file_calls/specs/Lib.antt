@@ -1,5 +1,6 @@
 pub mod Runs
 pub mod Answers
+pub mod Gathers
 pub mod Built
 pub mod Reading
 pub use Rattle.batch_laws.specs as batch_laws

@@ -1,7 +1,8 @@
 //! The file calls that put no bytes, over K-Split, the open files and what is kept of files.
 //!
 //! `run_call` gives the outcome of the step beside writes of others in flight; or the power went
-//! and each image is kept; or memory ran out and all is as before.
+//! and each image is kept; or memory ran out and all is as before. `mkdir`, `rmdir`, `dup` and the
+//! calls that look also say what they leave in POSIX mode, over a K-Split whose changes gather.
 //!
 //! - `names`: The file calls on names and descriptors, over K-Split, the open files and what is
 //!   kept of files.
@@ -11,8 +12,8 @@
 //! Reads and `seek` are no jobs and take no step. `fsync` is answered apart, so that K-Split and the table
 //! are seen to stay. `open` with `t` is one `set_size`.
 //!
-//! Stands on `pm_lines`, `layout_model`, `posix_types`, `open_files`, `eof_laws`, `k_split_laws`,
-//! `live_step_laws`, `posix_tables` and `k_split`.
+//! Stands on `pm_lines`, `layout_model`, `posix_types`, `open_files`, `eof_laws`, `batch_laws`,
+//! `live_step_laws` and `posix_tables`.
 #![tactic(auto)]
 
 mod calls;

@@ -9,6 +9,11 @@
 //! (`KeepsEnds`).
 //! An `open` that cuts a file asks that nothing is staged of it: the layer above publishes it
 //! first.
+//!
+//! Where changes gather, in POSIX mode, `mkdir`, `rmdir`, an `open` that cuts nothing, `dup`, `stat`
+//! and `list` go on so: what stands together after a history stands together after it and the
+//! call, though the batch may have been committed; or the power went, and each image is kept with
+//! this call unfinished; or memory ran out (`IsGatheredEnd`).
 
 mod looks;
 mod names;

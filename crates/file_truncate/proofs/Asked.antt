@@ -5,16 +5,15 @@ use Rattle.in_place.specs.layout_model.declared.lines.Draft.{Draft}
 use Rattle.in_place.specs.layout_model.Places.{reserve}
 use Rattle.in_place.specs.write_plan.image_model.Content.{size_by}
 use Rattle.in_place.specs.write_plan.image_model.Live.{latest}
+use Rattle.in_place.specs.write_plan.image_model.Room.{unused_blocks}
 use Rattle.in_place.specs.write_plan.image_model.Volume.{inode}
 use Rattle.in_place.specs.write_plan.file_table.Files.{Files, runs_in, size_in}
-use Rattle.file_calls.proofs.live_step_laws_proofs.k_plans_proofs.FreeCounts.{unwaiting-counted}
 use Rattle.in_place.specs.write_plan.k_split_model.View.{View}
 use Rattle.posix_types.specs.declared.call.Who.{Who}
 use Rattle.posix_types.specs.declared.handle.Handle.{Handle}
 use Rattle.posix_tables.specs.declared.open.Description.{Description}
 use Rattle.posix_tables.specs.Open.{opened, Tables}
 use Rattle.file_calls.specs.live_step_laws.k_map_plans.Plans.{IsLiveFile}
-use Rattle.file_calls.specs.live_step_laws.k_split.MapChanges.{free_blocks_in}
 use Rattle.file_calls.specs.live_step_laws.live_model.Overlays.{run_of}
 use Rattle.file_calls.specs.live_step_laws.world_model.TreeRules.{used_below}
 use Rattle.file_calls.specs.live_step_laws.world_model.Jobs.{live_claims}
@@ -27,10 +26,10 @@ none_mapped [] is = refl
 none_mapped (d ∷ ds) is = let never : [] ≡ run_of d ∷ map run_of ds = is in cc
 
 module _ (k : View) (t : Tables) (f : Files) (some : RunsInSome k t f) where
-  pub reserve_there : reserve k.volume.geometry ≤ free_blocks_in k + 3
+  pub reserve_there : reserve k.volume.geometry ≤ unused_blocks k.volume + 3
   reserve_there =
       let free = some.runs.flying.device.room.free in
-      omega (arith, free, unwaiting-counted (record { volume = k.volume; aside = []; waiting = k.waiting }) refl (some.runs.order.none_waits some.runs.unbatched))
+      omega (arith, free)
 
   module _ (who : Who) (h : Handle) (d : Description) (known : opened t who h ≡ Some d) where
     pub live_file : IsLiveFile d.node k.volume

@@ -10,7 +10,9 @@ ghost use Rattle.posix_types.specs.declared.call.Call.{Call};
 ghost use Rattle.posix_tables.specs.Open.{may_read};
 ghost use Rattle.file_calls.specs.Answers.{IsEnded};
 ghost use Rattle.file_calls.specs.Reading.{base_by, IsReadableFile, IsReadBy};
-ghost use Rattle.file_calls.specs.Runs.{RunsInSome};
+ghost use Rattle.file_calls.specs.Gathers.{IsGatheredEnd};
+ghost use Rattle.file_calls.specs.Runs.{CanRun};
+ghost use Rattle.live_step_laws.specs.live_model.staging_files.Keeps.{Staged};
 
 use crate::names::{
     Collection, FileTable, KSplit, NoMemory, OpenFiles, Opened, Told, answered, read_bytes,
@@ -68,10 +70,13 @@ pub fn read(
     handle: Handle,
     count: u64,
 ) -> Result<Told, NoMemory>
-    requires { RunsInSome k.now tables.old.tables files.now }
-    ensures { (power : Supply) → is_on power ≡ true
+    requires { CanRun k.now tables.old.tables files.now }
+    ensures ended { (power : Supply) → is_on power ≡ true
         → IsEnded who (Call.Read handle count) k.now tables.old.tables files.now k.now
         tables.new.tables files.now power power result }
+    ensures gathers { (a : Staged) (power : Supply) → is_on power ≡ true
+        → IsGatheredEnd who (Call.Read handle count) k.now tables.old.tables a files.now k.now
+        tables.new.tables a files.now power power result }
 {
     match opened_to_read(tables, who, handle) {
         None => Ok(answered(Reply::Error(Errno::EBADF))),
@@ -95,10 +100,13 @@ pub fn pread(
     place: u64,
     count: u64,
 ) -> Result<Told, NoMemory>
-    requires { RunsInSome k.now tables.now.tables files.now }
-    ensures { (power : Supply) → is_on power ≡ true
+    requires { CanRun k.now tables.now.tables files.now }
+    ensures ended { (power : Supply) → is_on power ≡ true
         → IsEnded who (Call.Pread handle place count) k.now tables.now.tables files.now k.now
         tables.now.tables files.now power power result }
+    ensures gathers { (a : Staged) (power : Supply) → is_on power ≡ true
+        → IsGatheredEnd who (Call.Pread handle place count) k.now tables.now.tables a files.now
+        k.now tables.now.tables a files.now power power result }
 {
     match opened_to_read(tables, who, handle) {
         None => Ok(answered(Reply::Error(Errno::EBADF))),
@@ -132,10 +140,13 @@ pub fn seek(
     whence: Whence,
     by: i64,
 ) -> Told
-    requires { RunsInSome k.now tables.old.tables files.now }
-    ensures { (power : Supply) → is_on power ≡ true
+    requires { CanRun k.now tables.old.tables files.now }
+    ensures ended { (power : Supply) → is_on power ≡ true
         → IsEnded who (Call.Seek handle whence by) k.now tables.old.tables files.now k.now
         tables.new.tables files.now power power (Ok result) }
+    ensures gathers { (a : Staged) (power : Supply) → is_on power ≡ true
+        → IsGatheredEnd who (Call.Seek handle whence by) k.now tables.old.tables a files.now k.now
+        tables.new.tables a files.now power power (Ok result) }
 {
     let _k = k;
     match tables.find(who, handle) {

@@ -9,8 +9,10 @@ ghost use Rattle.posix_types.specs.declared.call.Who.{Who};
 ghost use Rattle.open_files.specs.posix_tables.Open.{Tables};
 ghost use Rattle.open_files.specs.posix_tables.Outcomes.{answer};
 ghost use Rattle.live_step_laws.specs.commute_laws.Commutes.{takes};
+ghost use Rattle.live_step_laws.specs.live_model.staging_files.Keeps.{Staged};
 ghost use Rattle.open_files.specs.posix_spec.State.{State};
 ghost use Rattle.file_calls.specs.Answers.{ComesHalfWay, HasSameLoans, IsEnded, IsFileOf, IsReplyOf, IsSpent, KeepsEnds};
+ghost use Rattle.file_calls.specs.Gathers.{IsGatheredEnd};
 ghost use Rattle.file_calls.specs.Runs.{RunsInSome};
 
 use crate::names::outcomes::{NoMemory, Told, after_fault, answered};
@@ -21,7 +23,7 @@ use pm_lines::Power;
 use posix_types::{Path, Reply};
 use std::alloc::Global;
 
-/// Makes a directory. The path is spelled, and changes do not gather in a batch.
+/// Makes a directory. The path is spelled. Where changes gather, the batch may be committed in it.
 pub fn mkdir(
     alloc: Global,
     k: &mut KSplit,
@@ -29,11 +31,14 @@ pub fn mkdir(
     power: &mut Power,
 ) -> Result<Told, NoMemory>
     requires on { k.old.lost ≡ false }
-    requires unbatched { k.old.batched ≡ false }
     requires spelled { AreSpelled path.now }
-    ensures steps { Steps 256 power.old power.new }
-    ensures ended { (who : Who) (t : Tables) (f : Files)
+    ensures steps { k.old.batched ≡ false → Steps 256 power.old power.new }
+    ensures most { Steps 4112 power.old power.new }
+    ensures ended { k.old.batched ≡ false → (who : Who) (t : Tables) (f : Files)
         → IsEnded who (Call.Mkdir path.now) k.old t f k.new t f power.old power.new result }
+    ensures gathers { k.old.batched ≡ true → (who : Who) (t : Tables) (a : Staged) (f : Files)
+        → IsGatheredEnd who (Call.Mkdir path.now) k.old t a f k.new t a f power.old power.new
+        result }
     ensures ends { (t : Tables) (f : Files) → RunsInSome k.old t f
         → KeepsEnds k.old f k.new f power.new }
 {
@@ -43,14 +48,17 @@ pub fn mkdir(
     }
 }
 
-/// Removes an empty directory. Changes do not gather in a batch.
+/// Removes an empty directory. Where changes gather, the batch may be committed in it.
 pub fn rmdir(k: &mut KSplit, path: &Path, power: &mut Power) -> Result<Told, NoMemory>
     requires on { k.old.lost ≡ false }
-    requires unbatched { k.old.batched ≡ false }
-    ensures steps { Steps 256 power.old power.new }
-    ensures ended { (who : Who) (t : Tables) (f : Files)
+    ensures steps { k.old.batched ≡ false → Steps 256 power.old power.new }
+    ensures most { Steps 4112 power.old power.new }
+    ensures ended { k.old.batched ≡ false → (who : Who) (t : Tables) (f : Files)
         → IsEnded who (Call.Rmdir path.now) k.old t f k.new t f power.old power.new result }
-    ensures ends { (f : Files) → KeepsEnds k.old f k.new f power.new }
+    ensures gathers { k.old.batched ≡ true → (who : Who) (t : Tables) (a : Staged) (f : Files)
+        → IsGatheredEnd who (Call.Rmdir path.now) k.old t a f k.new t a f power.old power.new
+        result }
+    ensures ends { k.old.batched ≡ false → (f : Files) → KeepsEnds k.old f k.new f power.new }
 {
     match k.rmdir(path, power) {
         Ok(()) => Ok(answered(Reply::Ok)),

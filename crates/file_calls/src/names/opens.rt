@@ -10,7 +10,9 @@ ghost use Rattle.eof_laws.specs.k_split_model.View.{View};
 ghost use Rattle.live_step_laws.specs.k_split.Looks.{IsFound};
 ghost use Rattle.posix_types.specs.declared.call.Call.{Call};
 ghost use Rattle.file_calls.specs.Answers.{most_steps, told_of_open, CutsNothingStaged, IsEnded, IsMissing, KeepsEnds};
+ghost use Rattle.file_calls.specs.Gathers.{IsGatheredEnd};
 ghost use Rattle.file_calls.specs.Runs.{RunsInSome};
+ghost use Rattle.live_step_laws.specs.live_model.staging_files.Keeps.{Staged};
 
 use crate::names::outcomes::{NoMemory, Told, after_fault, answered};
 use eof_laws::FileTable;
@@ -76,9 +78,12 @@ fn open_there(
     requires file { (inode k.now.volume ino).kind ≡ File }
     requires shared { (flags.create && flags.exclusive) ≡ false }
     requires stays { flags.truncate ≡ true → size_in files.now ino ≡ 0 }
-    ensures { (power : Supply) → is_on power ≡ true
+    ensures ended { (power : Supply) → is_on power ≡ true
         → IsEnded who (Call.Open handle path.now flags) k.now tables.old.tables files.now k.now
         tables.new.tables files.now power power result }
+    ensures gathers { (a : Staged) (power : Supply) → is_on power ≡ true
+        → IsGatheredEnd who (Call.Open handle path.now flags) k.now tables.old.tables a files.now
+        k.now tables.new.tables a files.now power power result }
 {
     let _k = k;
     let _files = files;
@@ -184,12 +189,16 @@ fn open_missing(
 ) -> Result<Told, NoMemory>
     requires spelled { AreSpelled path.now }
     requires on { k.old.lost ≡ false }
-    requires unbatched { k.old.batched ≡ false }
     requires missing { IsMissing k.old.volume path.now }
     requires power { is_on power.old ≡ true }
-    ensures steps { Steps 256 power.old power.new }
-    ensures ended { (f : Files) → IsEnded who (Call.Open handle path.now flags) k.old
-        tables.old.tables f k.new tables.new.tables f power.old power.new result }
+    ensures steps { k.old.batched ≡ false → Steps 256 power.old power.new }
+    ensures most { Steps 4112 power.old power.new }
+    ensures ended { k.old.batched ≡ false → (f : Files)
+        → IsEnded who (Call.Open handle path.now flags) k.old tables.old.tables f k.new
+        tables.new.tables f power.old power.new result }
+    ensures gathers { k.old.batched ≡ true → (a : Staged) (f : Files)
+        → IsGatheredEnd who (Call.Open handle path.now flags) k.old tables.old.tables a f k.new
+        tables.new.tables a f power.old power.new result }
     ensures ends { (f : Files) → RunsInSome k.old tables.old.tables f
         → KeepsEnds k.old f k.new f power.new }
 {
@@ -245,9 +254,12 @@ pub fn open(
 
 /// Gives an open file another descriptor, bound to another handle. It takes no step.
 pub fn dup(tables: &mut OpenFiles, who: Who, handle: Handle, to: Handle) -> Result<Told, NoMemory>
-    ensures { (k : View) (f : Files) (power : Supply) → is_on power ≡ true
+    ensures ended { (k : View) (f : Files) (power : Supply) → is_on power ≡ true
         → IsEnded who (Call.Dup handle to) k tables.old.tables f k tables.new.tables f power power
         result }
+    ensures gathers { (k : View) (a : Staged) (f : Files) (power : Supply) → is_on power ≡ true
+        → IsGatheredEnd who (Call.Dup handle to) k tables.old.tables a f k tables.new.tables a f
+        power power result }
 {
     match tables.dup(who, handle, to) {
         Ok(descriptor) => Ok(answered(Reply::Fd(descriptor))),

@@ -5,7 +5,7 @@ ghost use Rattle.in_place.specs.layout_model.Places.{reserve};
 ghost use Rattle.in_place.specs.write_plan.image_model.Volume.{inode};
 ghost use Rattle.in_place.specs.write_plan.file_table.Files.{size_in};
 ghost use Rattle.file_calls.specs.live_step_laws.k_map_plans.Plans.{IsLiveFile};
-ghost use Rattle.file_calls.specs.live_step_laws.k_split.MapChanges.{free_blocks_in};
+ghost use Rattle.file_calls.specs.eof_laws.image_model.Room.{unused_blocks};
 ghost use Rattle.in_place.specs.pm_model.Powers.{is_on, Steps};
 ghost use Rattle.file_truncate.specs.Truncates.{IsCleanAnswer, IsCommitPaid, IsGiven, IsSet, IsTruncatePaid};
 
@@ -50,7 +50,7 @@ fn set_now(
     requires unbatched { k.old.batched ≡ false }
     requires file { IsLiveFile ino k.old.volume }
     requires size { size ≤ LONGEST_FILE }
-    requires room { reserve k.old.volume.geometry ≤ free_blocks_in k.old + 3 }
+    requires room { reserve k.old.volume.geometry ≤ unused_blocks k.old.volume + 3 }
     requires line { ino < length files.old.sizes }
     ensures steps { Steps (2 ^ 15) power.old power.new }
     ensures paid { IsTruncatePaid power.old power.new result }
@@ -80,7 +80,7 @@ pub(crate) fn give_size(
     requires power { is_on power.old ≡ true }
     requires file { IsLiveFile ino k.old.volume }
     requires size { size ≤ LONGEST_FILE }
-    requires room { reserve k.old.volume.geometry ≤ free_blocks_in k.old + 3 }
+    requires room { reserve k.old.volume.geometry ≤ unused_blocks k.old.volume + 3 }
     requires line { ino < length files.old.sizes }
     requires published { (inode k.old.volume ino).size ≡ size_in files.old ino }
     ensures steps { Steps (2 ^ 16) power.old power.new }

@@ -3,7 +3,7 @@ use Rattle.std.specs.Prelude.{Ok, option_map}
 use Rattle.open_files.specs.Found.{description_in}
 use Rattle.posix_types.specs.declared.call.Call.{Call}
 use Rattle.file_calls.specs.Answers.{IsEnded}
-use Rattle.file_calls.proofs.SeekCalls.{sync_ended, sync_unknown}
+use Rattle.file_calls.proofs.ReadEnds.{sync_ended, sync_unknown}
 use Rattle.file_calls.proofs.calls.reads.fsync.Goals as goal
 
 pub returns-in-None : goal.returns-in-None

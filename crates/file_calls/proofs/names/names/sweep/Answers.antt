@@ -23,11 +23,11 @@ pub returns-in-Ok-clause-ended : goal.returns-in-Ok-clause-ended
 returns-in-Ok-clause-ended c who call before t entry half replies spent on no_room loans =
     subst (λ x. IsEnded who call before t c.args.files.now c.drop_node.new.self c.args.tables.now.tables c.clear.new.self entry c.drop_node.new.power (Ok x)) (sym c.answered-in-Ok.ensures)
     (goes_too who call before c.args.k.now t c.args.tables.now.tables c.args.files.now (answer c.args.reply) c.args.ino entry c.args.power.now half replies spent on no_room loans c.drop_node.new.self c.clear.new.self c.drop_node.new.power
-    (no_name c.named.result _ c.named.ensures c.if-named.false) (sym c.is_open.ensures ∙ c.if-is_open.false) c.clear.ensures.file c.clear.ensures.spare c.drop_node.ensures.steps (c.in-Ok.ensures.answer c.requires.unbatched, c.in-Ok.ensures.paid))
+    (no_name c.named.result _ c.named.ensures c.if-named.false) (sym c.is_open.ensures ∙ c.if-is_open.false) c.clear.ensures.file c.clear.ensures.spare (c.drop_node.ensures.steps c.requires.unbatched) (c.in-Ok.ensures.answer c.requires.unbatched, (c.in-Ok.ensures.paid c.requires.unbatched)))
 
 pub returns-in-Err-clause-ended : goal.returns-in-Err-clause-ended
 returns-in-Err-clause-ended c who call before t entry half replies spent on no_room loans =
-    let fault = drop_fault c.args.k.now c.drop_node.new.self c.args.ino c.args.power.now c.drop_node.new.power c.in-Err.field-0 c.in-Err.ensures.memory (c.in-Err.ensures.answer c.requires.unbatched, c.in-Err.ensures.paid) in
+    let fault = drop_fault c.args.k.now c.drop_node.new.self c.args.ino c.args.power.now c.drop_node.new.power c.in-Err.field-0 c.in-Err.ensures.memory (c.in-Err.ensures.answer c.requires.unbatched, (c.in-Err.ensures.paid c.requires.unbatched)) in
     goes_lost who call before c.args.k.now t c.args.tables.now.tables c.args.files.now (answer c.args.reply) c.args.ino entry c.args.power.now half replies spent on no_room loans c.drop_node.new.self c.args.tables.now.tables c.args.files.now
     c.drop_node.new.power (no_name c.named.result _ c.named.ensures c.if-named.false) (sym c.is_open.ensures ∙ c.if-is_open.false) fault
 
@@ -37,5 +37,5 @@ returns-in-Ok-clause-ends c =
 
 pub returns-in-Err-clause-ends : goal.returns-in-Err-clause-ends
 returns-in-Err-clause-ends c on =
-    let fault = drop_fault c.args.k.now c.drop_node.new.self c.args.ino c.args.power.now c.drop_node.new.power c.in-Err.field-0 c.in-Err.ensures.memory (c.in-Err.ensures.answer c.requires.unbatched, c.in-Err.ensures.paid) in
+    let fault = drop_fault c.args.k.now c.drop_node.new.self c.args.ino c.args.power.now c.drop_node.new.power c.in-Err.field-0 c.in-Err.ensures.memory (c.in-Err.ensures.answer c.requires.unbatched, (c.in-Err.ensures.paid c.requires.unbatched)) in
     absurd (off_on c.drop_node.new.power fault.1 on)

@@ -1,5 +1,5 @@
 use Rattle.std.proofs.Common.{◌≡◌, sym, subst, ap, ◌∙◌, refl, inl, inr, arith}
-use Rattle.std.specs.Prelude.{Ok, true, false, option_map}
+use Rattle.std.specs.Prelude.{Ok, option_map}
 use Rattle.layout_model.specs.declared.lines.Kind.TheVariants.{File}
 use Rattle.eof_laws.specs.image_model.Volume.{inode}
 use Rattle.posix_types.specs.declared.call.Call.{Call}
@@ -71,7 +71,7 @@ returns-in-Ok-clause-ended c =
     (goes_too c.args.who (Call.Close c.args.handle) k k t t2 f (answer Reply.Ok) c.in-Some.opened.ino c.args.power.now c.args.power.now half
     (close_replies c.args.who c.args.handle k t t2 f (description_in c.in-Some.opened) known c.close.ensures.tables)
     (close_spent c.args.who c.args.handle k t t2 f (description_in c.in-Some.opened) known c.close.ensures.tables c.args.power.now c.args.power.now) c.requires.power (λ s. refl) (loans_same k) c.drop_node.new.self c.clear.new.self c.drop_node.new.power
-    (no_name c.named.result _ c.named.ensures c.if-named.false) shut c.clear.ensures.file c.clear.ensures.spare c.drop_node.ensures.steps (c.in-Ok.ensures.answer c.requires.runs.runs.unbatched, c.in-Ok.ensures.paid))
+    (no_name c.named.result _ c.named.ensures c.if-named.false) shut c.clear.ensures.file c.clear.ensures.spare (c.drop_node.ensures.steps c.requires.runs.runs.unbatched) (c.in-Ok.ensures.answer c.requires.runs.runs.unbatched, (c.in-Ok.ensures.paid c.requires.runs.runs.unbatched)))
 
 pub returns-in-Err-clause-ended : goal.returns-in-Err-clause-ended
 returns-in-Err-clause-ended c =
@@ -82,7 +82,7 @@ returns-in-Err-clause-ended c =
     let known = c.find.ensures.description ∙ ap (option_map description_in) c.in-Some.is in
     let shut = sym c.is_open.ensures ∙ c.if-is_open.false in
     let half = close_half c.args.who c.args.handle k t t2 f (description_in c.in-Some.opened) known c.close.ensures.tables (no_name c.named.result _ c.named.ensures c.if-named.false) shut in
-    let fault = drop_fault k c.drop_node.new.self c.in-Some.opened.ino c.args.power.now c.drop_node.new.power c.in-Err.field-0 c.in-Err.ensures.memory (c.in-Err.ensures.answer c.requires.runs.runs.unbatched, c.in-Err.ensures.paid) in
+    let fault = drop_fault k c.drop_node.new.self c.in-Some.opened.ino c.args.power.now c.drop_node.new.power c.in-Err.field-0 c.in-Err.ensures.memory (c.in-Err.ensures.answer c.requires.runs.runs.unbatched, (c.in-Err.ensures.paid c.requires.runs.runs.unbatched)) in
     goes_lost c.args.who (Call.Close c.args.handle) k k t t2 f (answer Reply.Ok) c.in-Some.opened.ino c.args.power.now c.args.power.now half
     (close_replies c.args.who c.args.handle k t t2 f (description_in c.in-Some.opened) known c.close.ensures.tables)
     (close_spent c.args.who c.args.handle k t t2 f (description_in c.in-Some.opened) known c.close.ensures.tables c.args.power.now c.args.power.now) c.requires.power (λ s. refl) (loans_same k) c.drop_node.new.self t2 f c.drop_node.new.power
@@ -98,5 +98,5 @@ returns-in-Ok-clause-ends c =
 
 pub returns-in-Err-clause-ends : goal.returns-in-Err-clause-ends
 returns-in-Err-clause-ends c on =
-    let fault = drop_fault c.args.k.now c.drop_node.new.self c.in-Some.opened.ino c.args.power.now c.drop_node.new.power c.in-Err.field-0 c.in-Err.ensures.memory (c.in-Err.ensures.answer c.requires.runs.runs.unbatched, c.in-Err.ensures.paid) in
+    let fault = drop_fault c.args.k.now c.drop_node.new.self c.in-Some.opened.ino c.args.power.now c.drop_node.new.power c.in-Err.field-0 c.in-Err.ensures.memory (c.in-Err.ensures.answer c.requires.runs.runs.unbatched, (c.in-Err.ensures.paid c.requires.runs.runs.unbatched)) in
     absurd (off_on c.drop_node.new.power fault.1 on)

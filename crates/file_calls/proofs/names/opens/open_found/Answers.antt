@@ -32,14 +32,14 @@ open_there-requires-clause-stays c cuts = no_cut c.args.flags.truncate _ cuts (s
 pub returns-then-is_exclusive-clause-ended : goal.returns-then-is_exclusive-clause-ended
 returns-then-is_exclusive-clause-ended c =
     subst (λ x. IsEnded c.args.who (Call.Open c.args.handle c.args.path.now c.args.flags) c.args.k.now c.args.tables.now.tables c.args.files.now c.args.k.now c.args.tables.now.tables c.args.files.now c.args.power.now c.args.power.now (Ok x)) (sym c.answered.ensures)
-    (open_exists c.args.who c.args.handle c.args.path.now c.args.flags c.args.k.now c.args.tables.now.tables c.args.files.now c.args.power.now c.requires.power c.args.ino c.requires.found (sym c.is_exclusive.ensures ∙ c.if-is_exclusive.true))
+    ((open_exists c.args.who c.args.handle c.args.path.now c.args.flags c.args.k.now c.args.tables.now.tables c.args.files.now c.args.ino c.requires.found (sym c.is_exclusive.ensures ∙ c.if-is_exclusive.true)).ended c.args.power.now c.requires.power)
 
 pub returns-then-is_directory-clause-ended : goal.returns-then-is_directory-clause-ended
 returns-then-is_directory-clause-ended c =
     subst (λ x. IsEnded c.args.who (Call.Open c.args.handle c.args.path.now c.args.flags) c.args.k.now c.args.tables.now.tables c.args.files.now c.args.k.now c.args.tables.now.tables c.args.files.now c.args.power.now c.args.power.now (Ok x))
     (sym c.answered-then-is_directory.ensures)
-    (open_directory c.args.who c.args.handle c.args.path.now c.args.flags c.args.k.now c.args.tables.now.tables c.args.files.now c.args.power.now c.requires.power c.args.ino c.requires.found (sym c.is_exclusive.ensures ∙ c.if-is_exclusive.false)
-    (sym c.is_directory.ensures ∙ c.if-is_directory.true))
+    ((open_directory c.args.who c.args.handle c.args.path.now c.args.flags c.args.k.now c.args.tables.now.tables c.args.files.now c.args.ino c.requires.found (sym c.is_exclusive.ensures ∙ c.if-is_exclusive.false)
+    (sym c.is_directory.ensures ∙ c.if-is_directory.true)).ended c.args.power.now c.requires.power)
 
 pub returns-clause-ended : goal.returns-clause-ended
-returns-clause-ended c = c.open_there.ensures c.args.power.now c.requires.power
+returns-clause-ended c = c.open_there.ensures.ended c.args.power.now c.requires.power

@@ -1,11 +1,16 @@
 -- The lines of a round come home at its end.
-use Rattle.std.specs.Prelude.{◌≡◌, ◌<◌, ◌+◌, ◌-◌, ◌*◌, ◌/◌, ◌%◌, ℕ, zero, suc, Bool, true, false, Contains, List, [], ◌∷◌, length, refl}
+use Rattle.std.specs.Prelude.{◌≡◌, ◌≢◌, ◌<◌, ◌+◌, ◌-◌, ◌*◌, ◌/◌, ◌%◌, ℕ, zero, suc, Bool, true, false, Contains, List, [], ◌∷◌, length, refl}
 use Rattle.std.proofs.Common.{arith, ap, sym, subst, inl, inr}
 use Rattle.std.proofs.lemmas.List.{length-map}
 use Rattle.std.proofs.Math.ListN.{get_or-map}
+use Rattle.world_view_laws.proofs.Modes.{geometry_now, lines_lent, posix_or_not}
+use Rattle.world_view_laws.proofs.PosixLines.{posix_lines_home}
+use Rattle.world_view_laws.specs.file_calls.batch_laws.Together.{PosixStandsAt}
+use Rattle.world_view_laws.specs.live_model.world_model.Jobs.{Job}
+use Rattle.world_view_laws.specs.live_model.world_model.Lines.{AreLinesOut}
 use Rattle.world_view_laws.specs.eof_laws.pm_model.declared.Cell.{Cell}
 use Rattle.world_view_laws.specs.eof_laws.pm_model.Cells.{AllHome, cell, is_lent}
-use Rattle.world_view_laws.specs.eof_laws.pm_model.Parts.{Part}
+use Rattle.world_view_laws.specs.eof_laws.pm_model.Parts.{Part, put_back}
 use Rattle.world_view_laws.specs.write_end.CrashesLaws.{LinesHoldOut}
 use Rattle.world_view_laws.specs.eof_laws.layout_model.declared.lines.Draft.{Draft}
 use Rattle.world_view_laws.specs.eof_laws.layout_model.Places.{Geometry, log_line}
@@ -17,14 +22,16 @@ use Rattle.world_view_laws.specs.file_publish.live_model.Flying.{IsOut}
 use Rattle.world_view_laws.specs.file_publish.k_split.Laps.{IsLogWord}
 use Rattle.world_view_laws.specs.file_publish.k_split.Order.{IsInOrder}
 use Rattle.world_view_laws.specs.file_publish.staging_files.Keeps.{Staged}
-use Rattle.world_view_laws.specs.file_publish.live_model.Standing.{StandsAt}
-use Rattle.world_view_laws.specs.file_publish.RoundLinesLaws.{HasTurned, StandsHome}
+use Rattle.world_view_laws.specs.file_publish.k_split.LogLines.{AreLogLines}
+use Rattle.world_view_laws.specs.file_publish.live_model.Standing.{AreLinesLent, StandsAt}
+use Rattle.world_view_laws.specs.file_publish.RoundLinesLaws.{StandsHome, with_cells}
 use Rattle.world_view_laws.specs.eof_laws.k_split_model.View.{View}
 use Rattle.world_view_laws.specs.eof_laws.block_io.Lines.{line_at}
 use Rattle.world_view_laws.specs.eof_laws.list_laws.Members.{In}
 use Rattle.world_view_laws.specs.write_end.Lines as ended
 use Rattle.world_view_laws.specs.write_end.oplog_entry.LogLines.{cells_of}
 use Rattle.world_view_laws.specs.eof_laws.posix_tables.Open.{Tables}
+use Rattle.world_view_laws.specs.eof_laws.posix_types.declared.call.Mode.{Mode}
 use Rattle.world_view_laws.specs.Lines.{AreCrashLines, first_of, HoldTheClaims}
 use Rattle.world_view_laws.specs.Views.{first_by, IsGoing, IsWorldOver, kept_of, state_of, WorldView}
 use Rattle.round_laws.specs.EndsLaws.{IsEnding, MayEnd, MayPutLog}
@@ -82,17 +89,17 @@ module _ (k : View) (t : Tables) (staging : Staged) (files : Files) (w : WorldVi
   going : IsGoing k t staging files w
   going = world.going on
 
-  standing : StandsAt w.geometry k t (kept_of w staging files) true (length w.history) (state_of w)
-  standing = subst (λ b. StandsAt w.geometry k t (kept_of w staging files) b (length w.history) (state_of w)) holds.are.out (going.stands world.mode)
-
   hold_claims : ended.AreCrashLines k.volume.geometry k.volume.base (first_by w.geometry w.first) w.claims [] [] lines
-  hold_claims = lines_hold k.volume w lines standing.geometry (sym going.base) holds
+  hold_claims = lines_hold k.volume w lines (geometry_now k t staging files w going) (sym going.base) holds
+
+  lent_lines : AreLinesLent k.volume k.cells (first_by w.geometry w.first)
+  lent_lines = lines_lent k t staging files w going holds.are.out
 
   lent : (i : ℕ) → IsLogWord k.volume i → is_lent (cell k.cells i) ≡ true
   lent i at =
       let place : 8 * log_line k.volume.geometry (i / 8 - log_line k.volume.geometry 0) + i % 8 ≡ i = omega (arith, at.from) in
       let below : i / 8 - log_line k.volume.geometry 0 < k.volume.geometry.log = omega (arith, at.from, at.below) in
-      subst (λ m. is_lent (cell k.cells m) ≡ true) place (standing.lines.lent (i / 8 - log_line k.volume.geometry 0) (i % 8) below (omega arith))
+      subst (λ m. is_lent (cell k.cells m) ≡ true) place (lent_lines.lent (i / 8 - log_line k.volume.geometry 0) (i % 8) below (omega arith))
 
   may_put : MayPutLog k lines
   may_put = record { lines_are = record { count = hold_claims.are.count; places = hold_claims.are.places }; out = lent }
@@ -103,17 +110,33 @@ may_end k t staging files w lines world on holds = may_put k t staging files w l
 -- ---- once they are back
 
 module _ (turning : StandsHome) (holding : LinesHoldOut) (k l : View) (t : Tables) (staging : Staged) (files : Files) (w : WorldView) (lines : List Part) (ending : IsEnding k l t staging files w lines) where
-  turned : HasTurned w.geometry k t (kept_of w staging files) (kept_of w staging files) true false (length w.history) (state_of w) l.cells (standing k t staging files w lines ending.world ending.awake ending.holds)
-  turned =
-      let claims = hold_claims k t staging files w lines ending.world ending.awake ending.holds in
-      let stands = standing k t staging files w lines ending.world ending.awake ending.holds in
-      turning w.geometry k t (kept_of w staging files) (length w.history) (state_of w) l.cells lines (cell l.cells) stands ending.none_out (subst IsInOrder ending.back.same ending.back.order)
-      (may_put k t staging files w lines ending.world ending.awake ending.holds).lines_are ending.back.back ending.back.home
-      (holding k.volume k.cells l.cells (first_by w.geometry w.first) w.claims lines (cell l.cells) stands.lines (ending.world.going ending.awake).spelled claims (record { back = ending.back.back; home = ending.back.home }))
+  goes : IsGoing k t staging files w
+  goes = ending.world.going ending.awake
 
-  -- K-SPLIT STANDS, with the lines at home.
-  pub at_home : StandsAt w.geometry l t (kept_of w staging files) false (length w.history) (state_of w)
-  at_home = subst (λ (x : View). StandsAt w.geometry x t (kept_of w staging files) false (length w.history) (state_of w)) (sym ending.back.same) turned.now
+  held : AreLinesOut k.volume (put_back l.cells (cell l.cells)) (first_by w.geometry w.first) w.claims [] []
+  held =
+      holding k.volume k.cells l.cells (first_by w.geometry w.first) w.claims lines (cell l.cells) (lent_lines k t staging files w lines ending.world ending.awake ending.holds) goes.spelled
+      (hold_claims k t staging files w lines ending.world ending.awake ending.holds) (record { back = ending.back.back; home = ending.back.home })
+
+  log_lines : AreLogLines k.volume lines
+  log_lines = (may_put k t staging files w lines ending.world ending.awake ending.holds).lines_are
+
+  order : IsInOrder (with_cells k l.cells)
+  order = subst IsInOrder ending.back.same ending.back.order
+
+  -- K-SPLIT STANDS, with the lines at home,
+  pub at_home : w.start.mode ≢ Mode.Posix → StandsAt w.geometry l t (kept_of w staging files) false (length w.history) (state_of w)
+  at_home other =
+      let stands = subst (λ b. StandsAt w.geometry k t (kept_of w staging files) b (length w.history) (state_of w)) ending.holds.are.out (goes.stands other) in
+      subst (λ (x : View). StandsAt w.geometry x t (kept_of w staging files) false (length w.history) (state_of w)) (sym ending.back.same)
+      (turning w.geometry k t (kept_of w staging files) (length w.history) (state_of w) l.cells lines (cell l.cells) stands ending.none_out order log_lines ending.back.back ending.back.home held).now
+
+  -- in POSIX mode too.
+  pub gathers_home : w.start.mode ≡ Mode.Posix → PosixStandsAt w.geometry l t (kept_of w staging files) false (length w.history) w.start w.history
+  gathers_home posix =
+      let stands = subst (λ b. PosixStandsAt w.geometry k t (kept_of w staging files) b (length w.history) w.start w.history) ending.holds.are.out (goes.gathers posix) in
+      subst (λ (x : View). PosixStandsAt w.geometry x t (kept_of w staging files) false (length w.history) w.start w.history) (sym ending.back.same)
+      (posix_lines_home w.geometry k t (kept_of w staging files) (length w.history) w.start w.history l.cells lines (cell l.cells) stands order log_lines ending.back.back ending.back.home held)
 
   pub same_volume : l.volume ≡ k.volume
   same_volume = ap (λ (x : View). x.volume) ending.back.same
@@ -121,11 +144,19 @@ module _ (turning : StandsHome) (holding : LinesHoldOut) (k l : View) (t : Table
   -- nothing is lent any more
   pub all_home : AllHome l.cells
   all_home i = by (is_lent (cell l.cells i)) refl where
-    out_or : IsOut l.volume at_home.jobs i → is_lent (cell l.cells i) ≡ false
+    out_now : is_lent (cell l.cells i) ≡ true → IsOut l.volume [] i
+    out_now lent_now = elim (posix_or_not w.start.mode) [
+      | inl posix ↦ (gathers_home posix).ready.going.home i lent_now
+      | inr other ↦
+          let stands = at_home other in
+          subst (λ (jobs : List Job). IsOut l.volume jobs i) (no-jobs w.pending stands.jobs stands.jobs_are ending.none_out) (stands.flying.home i lent_now)
+    ]
+
+    out_or : IsOut l.volume [] i → is_lent (cell l.cells i) ≡ false
     out_or (inl (slot, below, place)) =
         ending.back.home i (subst (λ (v : Volume). IsLogWord v i) same_volume (record { from = omega (arith, place); below = omega (arith, place, below) }))
-    out_or (inr (j, at, staged)) = absurd (subst (In j) (no-jobs w.pending at_home.jobs at_home.jobs_are ending.none_out) at)
+    out_or (inr (j, at, staged)) = absurd at
 
     by : (b : Bool) → is_lent (cell l.cells i) ≡ b → is_lent (cell l.cells i) ≡ false
     by false is = is
-    by true is = out_or (at_home.flying.home i is)
+    by true is = out_or (out_now is)

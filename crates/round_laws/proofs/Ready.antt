@@ -90,7 +90,7 @@ behind g i in_data = let at = data_word g (i / 512) (i % 512) in_data (omega ari
 
 module _ (turning : StandsHome) (holding : LinesHoldOut) (k l : View) (t : Tables) (staging : Staged) (files : Files) (w : WorldView) (lines : List Part) (ending : IsEnding k l t staging files w lines) where
   stands : StandsAt w.geometry l t (kept_of w staging files) false (length w.history) (state_of w)
-  stands = at_home turning holding k l t staging files w lines ending
+  stands = at_home turning holding k l t staging files w lines ending ending.world.mode
 
   -- each word of the staging files' blocks is alone
   staged_single : AllStagedSingle l

@@ -56,7 +56,7 @@ no_both b one two X = never (sym one ∙ two) X
 module _ (turning : StandsHome) (holding : LinesHoldOut) (gathered : StandsGathered) (keeps : KeepsGatheredOut) (k l m : View) (t : Tables) (staging then : Staged) (files table : Files) (w : WorldView) (lines : List Part)
     (ending : IsEnding k l t staging files w lines) (done : IsGatherAnswer files l then table m (Ok Commit.Done)) where
   stands : StandsAt w.geometry l t (kept_of w staging files) false (length w.history) (state_of w)
-  stands = at_home turning holding k l t staging files w lines ending
+  stands = at_home turning holding k l t staging files w lines ending ending.world.mode
 
   going : IsGoing k t staging files w
   going = ending.world.going ending.awake
@@ -201,7 +201,7 @@ world_lost k m t staging then files table w acts home world few lost = record {
 module _ (turning : StandsHome) (holding : LinesHoldOut) (cutting : KeepsGathered) (keeps : KeepsGatheredOut) (k l m : View) (t : Tables) (staging then : Staged) (files table : Files) (w : WorldView) (lines : List Part)
     (ending : IsEnding k l t staging files w lines) (cut : IsGatherAnswer files l then table m (Ok Commit.PowerLost)) where
   before : StandsAt w.geometry l t (kept_of w staging files) false (length w.history) (state_of w)
-  before = at_home turning holding k l t staging files w lines ending
+  before = at_home turning holding k l t staging files w lines ending ending.world.mode
 
   out : KeepsOut l.cells m.cells
   out = keeps l m files table then Commit.PowerLost cut

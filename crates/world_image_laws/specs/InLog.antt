@@ -18,7 +18,7 @@ use Rattle.world_step_laws.specs.commute_laws.posix_laws.Views.{need_of}
 use Rattle.world_step_laws.specs.commute_laws.crash_spec.Permitted.{StronglyPermitted}
 use Rattle.world_step_laws.specs.commute_laws.crash_spec.Strict.{StrictFrom}
 use Rattle.world_step_laws.specs.commute_laws.crash_spec.Sync.{SyncFrom}
-use Rattle.world_step_laws.specs.commute_laws.Needs.{Flight, IsApart, LetsAllBe}
+use Rattle.world_step_laws.specs.commute_laws.Needs.{Flight, IsApart}
 use Rattle.world_step_laws.specs.commute_laws.Needs as flying
 use Rattle.world_step_laws.specs.commute_laws.Orders.{AreTwoEach}
 use Rattle.world_step_laws.specs.world_model.JobLaws.{needs}
@@ -194,14 +194,19 @@ not_posix m strict posix = cc
 
 -- AN IMAGE IS KEPT WITH THE CALLS OF ALL JOBS unfinished, where it is kept with those of some: a call that is unfinished need not
 -- have acted.
-pub kept_of_all : (g : Geometry) (start : State) (history : List Item) (slots : List (Option ℕ)) (jobs : List Job) (last : List Unfinished) (image : Words) → start.mode ≢ Mode.Posix
+pub kept_of_all : (g : Geometry) (start : State) (history : List Item) (slots : List (Option ℕ)) (jobs : List Job) (last : List Unfinished) (image : Words) → (start.mode ≡ Mode.Posix → jobs ≡ [])
     → IsKept g start history (calls_in_log slots jobs ++ last) image → IsKept g start history (map unfinished_call jobs ++ last) image
-kept_of_all g start history slots jobs last image mode is =
-    record { checked = is.checked; geometry = is.geometry; tree = is.tree; permitted = λ left tree_is. by start.mode mode left (is.permitted left tree_is) } where
-      by : (m : Mode) → m ≢ Mode.Posix → (left : List TreeEntry) → StronglyPermitted m start history (calls_in_log slots jobs ++ last) left → StronglyPermitted m start history (map unfinished_call jobs ++ last) left
-      by Mode.Strict other left permitted = strict_of_all _ slots jobs last left permitted
-      by Mode.Sync other left permitted = sync_of_all _ slots jobs last left permitted
-      by Mode.Posix other left permitted = absurd (other refl)
+kept_of_all g start history slots jobs last image jobless is =
+    record { checked = is.checked; geometry = is.geometry; tree = is.tree; permitted = λ left tree_is. by start.mode refl left (is.permitted left tree_is) } where
+      alike : (slots : List (Option ℕ)) (jobs : List Job) → jobs ≡ [] → calls_in_log slots jobs ≡ map unfinished_call jobs
+      alike [] [] none = refl
+      alike (o ∷ slots) [] none = refl
+      alike slots (j ∷ jobs) none = cc
+
+      by : (m : Mode) → start.mode ≡ m → (left : List TreeEntry) → StronglyPermitted m start history (calls_in_log slots jobs ++ last) left → StronglyPermitted m start history (map unfinished_call jobs ++ last) left
+      by Mode.Strict own left permitted = strict_of_all _ slots jobs last left permitted
+      by Mode.Sync own left permitted = sync_of_all _ slots jobs last left permitted
+      by Mode.Posix own left permitted = subst (λ cs. StronglyPermitted Mode.Posix start history (cs ++ last) left) (alike slots jobs (jobless own)) permitted
 
 -- and with one more, which lost its power before it acted
 pub kept_back_more : (v : Volume) (d : List Cell) (first : Words) (claims : List (ℕ × Draft)) (jobs : List Job) (start : State) (history : List Item) (c : Unfinished) → start.mode ≢ Mode.Posix

@@ -1,8 +1,8 @@
 -- What is seen of the parts of a World: whether a call waits, and which is the next.
-use Rattle.std.specs.Prelude.{◌≡◌, ℕ, true, false, IfNone, IfSome, List, [], length, Option, Some, None, slice_get}
+use Rattle.std.specs.Prelude.{◌≡◌, ◌≢◌, ℕ, Bool, true, false, IfNone, IfSome, List, [], ◌∷◌, length, Option, Some, None, slice_get, vec_len}
 use Rattle.std.specs.List.{list_any}
 use Rattle.std.specs.Option.{option_map_or}
-use Rattle.std.proofs.Common.{ap, ◌∙◌, refl, sym, subst}
+use Rattle.std.proofs.Common.{arith, ap, ◌∙◌, refl, sym, subst}
 use Rattle.world_view_laws.specs.crash_spec.Busy.{is_busy, keeps_busy, waits_for}
 use Rattle.world_view_laws.specs.in_flight.Busy.{files_by}
 use Rattle.world_view_laws.specs.posix_spec.Run.{Unfinished}
@@ -14,7 +14,8 @@ use Rattle.world_view_laws.specs.in_flight.Busy.{IsKept as IsKeptBusy}
 use Rattle.world_view_laws.specs.in_flight.Counters.{count_for}
 use Rattle.world_view_laws.specs.in_flight.live_model.Standing.{JobOut, StandsAt}
 use Rattle.world_view_laws.specs.Begins.{IsKeptBy}
-use Rattle.world_view_laws.specs.Views.{files_out, kept_of, next_of, state_of}
+use Rattle.world_view_laws.proofs.Modes.{none_at_home}
+use Rattle.world_view_laws.specs.Views.{files_out, IsGoing, kept_of, next_of, state_of}
 use Rattle.world_parts.specs.declared.parts.Parts.{Parts}
 use Rattle.world_parts.specs.Seen.{IsKept, seen}
 
@@ -26,16 +27,31 @@ none_busy s c = by (waits_for s c) where
   by None = refl
   by (Some node) = refl
 
--- with the lines at home none is
-pub busy_home : (p : Parts) → IsKept p → p.lost ≡ false → p.lines_out ≡ false → (who : Who) (call : Call) → is_busy (state_of (seen p)) (files_out (seen p)) (who, call) ≡ false
-busy_home p kept awake home who call =
-    ap (λ (ps : List JobOut). is_busy (state_of (seen p)) (files_by (state_of (seen p)) ps) (who, call)) at_home.lines.0 ∙ none_busy (state_of (seen p)) (who, call) where
-      at_home : StandsAt p.geometry p.k p.tables.tables (kept_of (seen p) p.staging p.files) false (length p.history.items) (state_of (seen p))
-      at_home = subst (λ b. StandsAt p.geometry p.k p.tables.tables (kept_of (seen p) p.staging p.files) b (length p.history.items) (state_of (seen p))) home ((kept.world.going awake).stands kept.world.mode)
+no_items : {X : Type 0} (xs : List X) → length xs ≡ 0 → xs ≡ []
+no_items [] is = refl
+no_items (x ∷ xs) is = absurd (omega (arith, is))
 
-module _ (p : Parts) (kept : IsKept p) (awake : p.lost ≡ false) (out : p.lines_out ≡ true) (who : Who) (call : Call) where
-  stands : StandsAt p.geometry p.k p.tables.tables (kept_of (seen p) p.staging p.files) true (length p.history.items) (state_of (seen p))
-  stands = subst (λ b. StandsAt p.geometry p.k p.tables.tables (kept_of (seen p) p.staging p.files) b (length p.history.items) (state_of (seen p))) out ((kept.world.going awake).stands kept.world.mode)
+pub busy_alone : (p : Parts) → vec_len p.pending ≡ 0 → (who : Who) (call : Call) → is_busy (state_of (seen p)) (files_out (seen p)) (who, call) ≡ false
+busy_alone p none who call =
+    ap (λ (ps : List JobOut). is_busy (state_of (seen p)) (files_by (state_of (seen p)) ps) (who, call)) (no_items p.pending.items (omega (arith, none, p.pending.ok.0)))
+    ∙ none_busy (state_of (seen p)) (who, call)
+
+-- where one is out the lines are, and the mode is not POSIX mode
+module _ (p : Parts) (kept : IsKept p) (awake : p.lost ≡ false) (some : vec_len p.pending ≢ 0) (who : Who) (call : Call) where
+  going : IsGoing p.k p.tables.tables p.staging p.files (seen p)
+  going = kept.world.going awake
+
+  job_out : p.pending.items ≢ []
+  job_out none = some (omega (arith, ap (λ (ps : List JobOut). length ps) none, p.pending.ok.0))
+
+  abbrev StandsBy : Bool → Type 0
+  StandsBy lines_out = StandsAt p.geometry p.k p.tables.tables (kept_of (seen p) p.staging p.files) lines_out (length p.history.items) (state_of (seen p))
+
+  stands : StandsBy true
+  stands = by p.lines_out refl where
+    by : (b : Bool) → p.lines_out ≡ b → StandsBy true
+    by true out = subst StandsBy out (going.stands (λ posix. job_out (going.gathers posix).none_out))
+    by false home = absurd (job_out (none_at_home p.k p.tables.tables p.staging p.files (seen p) going home))
 
   pub busy_none : (found : Option (ℕ × Who)) → IsKeptBusy who call p.k p.tables.tables p.pending.items found → IfNone found (is_busy (state_of (seen p)) (files_out (seen p)) (who, call) ≡ false)
   busy_none None is = is p.geometry (kept_of (seen p) p.staging p.files) (length p.history.items) (state_of (seen p)) stands refl

@@ -12,14 +12,14 @@ use posix_types::{Call, Who};
 use world_view_laws::{calls_made, keeper, next_in, place_of};
 
 /// The file that the call waits for, by its inode, and the caller of the job that is out of it, while the power is
-/// on. With the log's lines at home no job is out.
+/// on. With no job out, as with the log's lines at home and in POSIX mode, it waits for none.
 pub fn busy_on(p: &Parts, who: Who, call: &Call) -> Option<(u32, Who)>
     requires kept { IsKept p.now }
     requires awake { p.now.lost ≡ false }
     ensures none { IfNone result (is_busy (state_of (seen p.now)) (files_out (seen p.now)) (who, call.now) ≡ false) }
     ensures some { IfSome result (λ found. IsKeptBy (seen p.now) who call.now found.0 found.1) }
 {
-    if !p.lines_out {
+    if p.pending.is_empty() {
         return None;
     }
     keeper(&p.k, &p.tables, &p.pending, who, call)

@@ -14,12 +14,12 @@ use Rattle.round_laws.specs.EndsLaws.{AppliesClaims, EndsReady, GoesIntoNextRoun
 use Rattle.world_parts.specs.in_flight.k_split.Laps.{IsLogWord}
 use Rattle.world_parts.specs.in_flight.k_split.Order.{IsInOrder}
 use Rattle.world_parts.specs.in_flight.staging_files.Keeps.{Staged}
-use Rattle.world_parts.specs.in_flight.live_model.Standing.{StandsAt}
 use Rattle.world_parts.proofs.world_view_laws_proofs.Ending.{no_both}
+use Rattle.world_parts.proofs.world_view_laws_proofs.Modes.{device_on, geometry_now}
 use Rattle.world_parts.specs.world_view_laws.Lines.{HoldTheClaims}
 use Rattle.world_parts.specs.log_checkpoint.Gathers.{file_count, IsGatherAnswer, total_runs}
 use Rattle.world_parts.specs.world_view_laws.Rounds.{AreClaimsApplied, IsNextRound, MayCheckpoint}
-use Rattle.world_parts.specs.world_view_laws.Views.{Disk, disk_of, IsWorldOver, kept_of, state_of, WorldView}
+use Rattle.world_parts.specs.world_view_laws.Views.{Disk, disk_of, IsWorldOver, WorldView}
 use Rattle.world_parts.specs.declared.parts.Parts.{Parts}
 use Rattle.world_parts.specs.Seen.{IsKept, seen}
 
@@ -35,9 +35,6 @@ gather_steps runs files old new few steps = steps_within (2 ^ 15 * (runs + files
 
 module _ (ready : EndsReady) (p : Parts) (l : View) (lines : List Part) (kept : IsKept p) (on : p.lost ≡ false) (none : p.pending.items ≡ []) (holds : HoldTheClaims (seen p) lines) (same : l ≡ record p.k { cells = l.cells })
     (orders : l.lost ≡ false → IsInOrder l) (back : LinesComeBack (log_line p.k.volume.geometry 0) lines p.k.cells l.cells) (home : (i : ℕ) → IsLogWord p.k.volume i → is_lent (cell l.cells i) ≡ false) where
-  stands : StandsAt p.geometry p.k p.tables.tables (kept_of (seen p) p.staging p.files) p.lines_out (length p.history.items) (state_of (seen p))
-  stands = (kept.world.going on).stands kept.world.mode
-
   -- THE WORLD ENDS its round.
   pub ending_of : IsEnding p.k l p.tables.tables p.staging p.files (seen p) lines
   ending_of = record {
@@ -45,7 +42,7 @@ module _ (ready : EndsReady) (p : Parts) (l : View) (lines : List Part) (kept : 
     awake = on;
     none_out = none;
     holds = holds;
-    back = record { same = same; order = orders (ap (λ (x : View). x.lost) same ∙ stands.on); back = back; home = home };
+    back = record { same = same; order = orders (ap (λ (x : View). x.lost) same ∙ device_on p.k p.tables.tables p.staging p.files (seen p) (kept.world.going on)); back = back; home = home };
   }
 
   pub ready_now : ReadyToGather p.files l
@@ -55,7 +52,7 @@ module _ (ready : EndsReady) (p : Parts) (l : View) (lines : List Part) (kept : 
   pub next_base_fits : p.base + p.geometry.log < 2 ^ 64
   next_base_fits =
       let base : p.base ≡ l.volume.base = (kept.world.going on).base ∙ sym (ap (λ (x : View). x.volume.base) same) in
-      let log : l.volume.geometry.log ≡ p.geometry.log = ap (λ (x : View). x.volume.geometry.log) same ∙ ap (λ (g : Geometry). g.log) stands.geometry in
+      let log : l.volume.geometry.log ≡ p.geometry.log = ap (λ (x : View). x.volume.geometry.log) same ∙ ap (λ (g : Geometry). g.log) (geometry_now p.k p.tables.tables p.staging p.files (seen p) (kept.world.going on)) in
       omega (arith, base, log, ready_now.next)
 
   pub gathers_within : (old new : Supply) → Steps (2 ^ 15 * (total_runs p.files + file_count l.volume + 5)) old new → Steps (2 ^ 26) old new

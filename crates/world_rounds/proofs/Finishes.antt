@@ -23,6 +23,7 @@ use Rattle.world_parts.specs.in_flight.live_model.Jobs.{without}
 use Rattle.world_parts.specs.in_flight.live_model.Overlays.{run_of}
 use Rattle.world_parts.specs.in_flight.world_model.Jobs.{put_bytes_of}
 use Rattle.world_parts.proofs.world_view_laws_proofs.Ending.{can_finish, finish_view, finished_on, has, has_size, others_on, without_one}
+use Rattle.world_parts.proofs.world_view_laws_proofs.Modes.{no_job}
 use Rattle.world_parts.proofs.world_view_laws_proofs.OpenCalls.{next_of_job}
 use Rattle.world_parts.proofs.world_view_laws_proofs.Finishing.{finished_ends, job_answers, one_job}
 use Rattle.world_parts.specs.world_view_laws.file_calls.open_files.State.{OpenState}
@@ -60,7 +61,7 @@ module _ (p : Parts) (kept : IsKept p) (awake : p.lost ≡ false) (out : p.lines
   going = kept.world.going awake
 
   pub callers : AllPairs AreOfTwoThreads p.pending.items
-  callers = (going.stands kept.world.mode).callers
+  callers = (going.stands (no_job p.k p.tables.tables p.staging p.files (seen p) going q is_out.there)).callers
 
   -- the one that is taken is the job's
   pub taken_is : (taken : JobOut) → In taken p.pending.items → taken.who ≡ job.who → taken ≡ q
@@ -88,7 +89,7 @@ module _ (p : Parts) (kept : IsKept p) (awake : p.lost ≡ false) (out : p.lines
   })
 
   pub answers_so : (step (state_of (seen p)) q.who q.call).outcome ≡ answer (Reply.Count (length (put_bytes_of q.call)))
-  answers_so = job_answers p.geometry p.k p.tables.tables _ p.lines_out (length p.history.items) (state_of (seen p)) (going.stands kept.world.mode) q is_out.there
+  answers_so = job_answers p.geometry p.k p.tables.tables _ p.lines_out (length p.history.items) (state_of (seen p)) (going.stands (no_job p.k p.tables.tables p.staging p.files (seen p) going q is_out.there)) q is_out.there
 
   -- ---- what it leaves
 

@@ -14,6 +14,7 @@ use Rattle.world_parts.specs.in_flight.k_split.Laps.{IsLogWord}
 use Rattle.world_parts.specs.in_flight.k_split.LogLines.{AreLogLines}
 use Rattle.world_parts.specs.in_flight.k_split.Order.{IsInOrder}
 use Rattle.world_parts.proofs.world_view_laws_proofs.Ending.{no_both}
+use Rattle.world_parts.proofs.world_view_laws_proofs.Modes.{geometry_now}
 use Rattle.world_parts.proofs.world_view_laws_proofs.Rounds.{begun_on, begun_view, round_begun}
 use Rattle.world_parts.specs.world_view_laws.Rounds.{IsRoundBegun}
 use Rattle.world_parts.specs.world_view_laws.Views.{first_by, IsWorldOver, WorldView}
@@ -53,7 +54,7 @@ module _ (law : StandsOut) (may : MayBegin) (p q : Parts) (l : View) (lines : Li
   order = orders (ap (λ (x : View). x.lost) same ∙ taken.on)
 
   words : (i : ℕ) → IsLogWord p.k.volume i → first_by p.geometry ws i ≡ words_of p.k.cells i
-  words = kept_words p.k l lines are goes ws count each p.geometry ((kept.world.going on).stands kept.world.mode).geometry
+  words = kept_words p.k l lines are goes ws count each p.geometry (geometry_now p.k p.tables.tables p.staging p.files (seen p) (kept.world.going on))
 
   abbrev rest : Parts
   rest = record p { k = l; first = q.first; lines_out = true }

@@ -34,6 +34,7 @@ use Rattle.write_end.proofs.LosingPending.{job_of, stands_of}
 use Rattle.in_flight.proofs.CountsCounts.{pairs}
 use Rattle.in_flight.proofs.CountsJobs.{same_who-refl, spellable}
 use Rattle.in_flight.proofs.Taking.{all_left, other_who}
+use Rattle.world_view_laws.proofs.Modes.{no_job}
 use Rattle.world_view_laws.specs.declared.views.over.Over.{Over}
 use Rattle.write_end.specs.oplog_entry.declared.claims.Full.{Full}
 use Rattle.world_view_laws.specs.Begins.{IsFilledOut, item_of, OthersStay}
@@ -82,8 +83,12 @@ module _ (k : View) (t : Tables) (staging : Staged) (files : Files) (w : WorldVi
   going : IsGoing k t staging files w
   going = world.going on
 
+  -- a job is out, so the mode is not POSIX mode
+  pub other : w.start.mode ≢ Mode.Posix
+  other = no_job k t staging files w going p is_out.there
+
   pub standing : StandsAt w.geometry k t (kept_of w staging files) true (length w.history) (state_of w)
-  standing = subst (λ b. StandsAt w.geometry k t (kept_of w staging files) b (length w.history) (state_of w)) out (going.stands world.mode)
+  standing = subst (λ b. StandsAt w.geometry k t (kept_of w staging files) b (length w.history) (state_of w)) out (going.stands other)
 
   -- what an end of the job asks for
   abbrev pub has : HasJob k job
@@ -100,9 +105,6 @@ module _ (k : View) (t : Tables) (staging : Staged) (files : Files) (w : WorldVi
 
   pub mode_is : has.s.mode ≡ w.start.mode
   mode_is = (setting_run w.start w.history).mode
-
-  pub other : w.start.mode ≢ Mode.Posix
-  other = world.mode
 
   pub has_write : HasWrite k job t files p.call has
   has_write = record { tables = refl; files_are = refl; call_is = refl; mode = λ posix. other (sym mode_is ∙ posix) }
@@ -187,8 +189,8 @@ module _ (k : View) (t : Tables) (staging : Staged) (files : Files) (w : WorldVi
     going2 : IsGoing l u staging laid (finish_view slot l u laid)
     going2 = record {
       stands = λ mode. subst (λ b. StandsAt w.geometry l u (kept_of (finish_view slot l u laid) staging laid) b (length (w.history ++ item_of w p.who p.call ∷ [])) (state_of (finish_view slot l u laid))) (sym out) stands2;
-      gathers = λ posix. absurd (world.mode posix);
-      waits = λ posix. absurd (world.mode posix);
+      gathers = λ posix. absurd (other posix);
+      waits = λ posix. absurd (other posix);
       counted = λ mode. (let was = going.counted mode in omega (arith, was, one_less, length-append w.claims ((slot, p.draft) ∷ [])));
       runs = λ settled. absurd (omega (arith, settled, world.counted.settled, grown.longer));
       bare = going.bare;
@@ -253,8 +255,8 @@ module _ (k : View) (t : Tables) (staging : Staged) (files : Files) (w : WorldVi
     going3 : IsGoing l t given files (give_view full l given)
     going3 = record {
       stands = λ mode. subst (λ b. StandsAt w.geometry l t (kept_of (give_view full l given) given files) b (length w.history) (state_of w)) (sym out) leaves.stands;
-      gathers = λ posix. absurd (world.mode posix);
-      waits = λ posix. absurd (world.mode posix);
+      gathers = λ posix. absurd (other posix);
+      waits = λ posix. absurd (other posix);
       counted = λ mode. (let was = going.counted mode in omega (arith, was, one_less, runs));
       runs = λ settled. (let was = going.runs settled in omega (arith, was, one_less, runs));
       bare = λ goes none. absurd (let never : Some (over_by w.over full) ≡ None = goes in cc);

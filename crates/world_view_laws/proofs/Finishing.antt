@@ -25,6 +25,7 @@ use Rattle.file_calls.specs.eof_laws.Ends.{FilesEnd}
 use Rattle.write_end.specs.Ends.{LeavesFinished}
 use Rattle.in_flight.specs.write_jobs.Jobs.{FilledView}
 use Rattle.in_flight.specs.world_model.Jobs.{put_bytes_of}
+use Rattle.world_view_laws.proofs.Modes.{no_job}
 use Rattle.world_view_laws.proofs.Ending.{has, no_both}
 use Rattle.world_view_laws.specs.Begins.{IsFilledOut}
 use Rattle.world_view_laws.specs.Views.{IsWorldOver, kept_of, state_of, WorldView}
@@ -63,5 +64,5 @@ module _ (law : EndFinished) (k : View) (t : Tables) (staging : Staged) (files :
   pub finished_ends : FilesEnd l.volume laid
   finished_ends =
       let going = world.going on in
-      law w.geometry k l t u (kept_of w staging files) _ _ true _ _ (state_of w) _ slot p (going.stands world.mode) is_out.there (going.drafts_end p is_out.there)
+      law w.geometry k l t u (kept_of w staging files) _ _ true _ _ (state_of w) _ slot p (going.stands (no_job k t staging files w going p is_out.there)) is_out.there (going.drafts_end p is_out.there)
       (ap (λ (x : View). x.volume) same) refl leaves.stands going.ends

@@ -26,6 +26,7 @@ use Rattle.write_end.proofs.Ended.{comes_home_alone}
 use Rattle.write_end.proofs.Going.{found_lost, lost_alike}
 use Rattle.write_end.proofs.Homes.{has_blocks_out}
 use Rattle.write_end.proofs.Landed.{front_finishes, landed_is_finished, landed_may_place}
+use Rattle.world_view_laws.proofs.Modes.{geometry_now}
 use Rattle.world_view_laws.proofs.Ending.{has, homes_on, mode_is, no_both, other, standing}
 use Rattle.world_view_laws.proofs.Losing.{size_now}
 use Rattle.world_view_laws.specs.Begins.{IsFilledOut, OthersStay}
@@ -102,7 +103,7 @@ module _ (k : View) (t : Tables) (staging : Staged) (files : Files) (w : WorldVi
         cut_out : IsLostOut staging laid cut_view
         cut_out = let still = world.going on in record {
           volume = k.volume;
-          geometry = (still.stands world.mode).geometry;
+          geometry = geometry_now k t staging files w still;
           base = sym still.base;
           none_home = still.none_home;
           size = (loses.left can_place.t can_place.now can_place.placing).size ∙ landed.home.back.size ∙ size_now k t staging files w world on;

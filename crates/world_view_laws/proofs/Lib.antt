@@ -1,4 +1,7 @@
 pub mod OpenCalls
+pub mod PosixLosing
+pub mod Modes
+pub mod PosixLines
 pub mod Losing
 pub mod Ending
 pub mod Landing

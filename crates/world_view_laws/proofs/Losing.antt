@@ -2,12 +2,12 @@
 use Rattle.std.specs.Prelude.{◌≡◌, ◌≢◌, ◌≤◌, ◌+◌, ◌*◌, ◌/◌, ◌++◌, ℕ, Bool, true, false, List, [], ◌∷◌, length, map, Some, None, refl}
 use Rattle.std.proofs.Common.{arith, ap, ◌∙◌, sym, subst, inl, inr}
 use Rattle.std.proofs.Math.Path.{fun_ext}
+use Rattle.file_calls.specs.batch_laws.Together.{PosixStandsAt}
 use Rattle.file_calls.specs.eof_laws.pm_model.declared.Cell.{Cell}
 use Rattle.file_calls.specs.eof_laws.pm_model.Cells.{cell, is_lent, IsCandidate}
 use Rattle.file_calls.specs.eof_laws.pm_model.Words.{Words}
-use Rattle.file_calls.specs.eof_laws.layout_model.Places.{Geometry, log_line}
+use Rattle.file_calls.specs.eof_laws.layout_model.Places.{log_line}
 use Rattle.in_flight.specs.image_model.Honest.{IsHonest}
-use Rattle.in_flight.specs.image_model.Volume.{Volume}
 use Rattle.in_flight.specs.file_table.Files.{Files}
 use Rattle.in_flight.specs.k_split_model.View.{View}
 use Rattle.in_flight.specs.block_io.Lines.{LinesComeBack}
@@ -16,9 +16,9 @@ use Rattle.file_calls.specs.eof_laws.posix_tables.Open.{Tables}
 use Rattle.in_flight.specs.posix_spec.Run.{Unfinished}
 use Rattle.in_flight.specs.posix_spec.Unfinished.{AreUnfinished}
 use Rattle.in_flight.specs.staging_files.Keeps.{Staged}
-use Rattle.in_flight.specs.world_image_laws.Promised.{IsKept}
+use Rattle.in_flight.specs.world_image_laws.Promised.{IsKept, KeepsPromise}
 use Rattle.in_flight.specs.live_model.Jobs.{without}
-use Rattle.in_flight.specs.live_model.Standing.{JobOut, StandsAt}
+use Rattle.in_flight.specs.live_model.Standing.{JobOut}
 use Rattle.write_end.specs.oplog_entry.declared.claims.Full.{Full}
 use Rattle.write_end.specs.Ends.{begun_by}
 use Rattle.in_flight.specs.write_jobs.Jobs.{FilledView, HoldWords}
@@ -27,6 +27,8 @@ use Rattle.write_end.specs.Blocks.{AreBlocksHome, AreBlocksOut}
 use Rattle.write_end.specs.LosingLaws.{ComesHome}
 use Rattle.write_end.specs.Lost.{IsLostWith}
 use Rattle.world_view_laws.proofs.Ending.{stays_in, without_one}
+use Rattle.world_view_laws.proofs.Modes.{geometry_now, in_each, none_at_home, size_of_device}
+use Rattle.world_view_laws.proofs.PosixLosing.{posix_found_lost, posix_keeps_home}
 use Rattle.world_view_laws.proofs.OpenCalls.{open_without}
 use Rattle.write_end.proofs.Crashed.{keeps_home}
 use Rattle.write_end.proofs.Ended.{comes_home_alone, finishes_lost, gives_up_lost}
@@ -84,35 +86,40 @@ module _ (k : View) (t : Tables) (staging : Staged) (files : Files) (w : WorldVi
   going : IsGoing k t staging files w
   going = world.going on
 
-  stands : StandsAt w.geometry k t (kept_of w staging files) w.lines_out (length w.history) (state_of w)
-  stands = going.stands world.mode
-
   pub size_now : length k.cells ≡ 512 * w.geometry.blocks
-  size_now =
-      stands.order.stands.size
-      ∙ ap (λ (v : Volume). 512 * v.geometry.blocks) (stands.order.settled stands.unbatched)
-      ∙ ap (λ (g : Geometry). 512 * g.blocks) stands.geometry
-
-  stands_as : (lines : Bool) → w.lines_out ≡ lines → StandsAt w.geometry k t (kept_of w staging files) lines (length w.history) (state_of w)
-  stands_as lines out = subst (λ b. StandsAt w.geometry k t (kept_of w staging files) b (length w.history) (state_of w)) out stands
+  size_now = size_of_device k t staging files w going
 
   -- with the log's lines out, and no call beside the jobs, or one
   off_out : (unfinished : List Unfinished) (acts : ℕ) → IsLostWith k.volume k.cells (kept_of w staging files) w.start w.history unfinished → IsLostOut staging files (lost_view w unfinished acts (disk_of k t staging files))
   off_out unfinished acts lost = record {
     volume = k.volume;
-    geometry = stands.geometry;
+    geometry = geometry_now k t staging files w going;
     base = sym going.base;
     none_home = going.none_home;
     size = size_now;
     at = lost;
   }
 
+  -- in POSIX mode, whatever is unfinished
+  posix_off : (unfinished : List Unfinished) → PosixStandsAt w.geometry k t (kept_of w staging files) true (length w.history) w.start w.history → IsLostWith k.volume k.cells (kept_of w staging files) w.start w.history unfinished
+  posix_off unfinished stands = posix_found_lost w.geometry k t (kept_of w staging files) (length w.history) w.start w.history unfinished stands
+
+  none_found : w.lines_out ≡ true → IsLostWith k.volume k.cells (kept_of w staging files) w.start w.history []
+  none_found out =
+      in_each k t staging files w going (IsLostWith k.volume k.cells (kept_of w staging files) w.start w.history []) true out
+      (λ other stands. found_lost w.geometry k t (kept_of w staging files) (length w.history) w.start w.history other stands going.spelled) (λ posix stands. posix_off [] stands)
+
+  -- or at a call
+  call_found : (c : Unfinished) → w.lines_out ≡ true → IsLostWith k.volume k.cells (kept_of w staging files) w.start w.history (c ∷ [])
+  call_found c out =
+      in_each k t staging files w going (IsLostWith k.volume k.cells (kept_of w staging files) w.start w.history (c ∷ [])) true out
+      (λ other stands. found_at_call w.geometry k t (kept_of w staging files) (length w.history) w.start w.history c other stands going.spelled) (λ posix stands. posix_off (c ∷ []) stands)
+
   pub off_none : (acts : ℕ) → w.lines_out ≡ true → IsLostOut staging files (lost_view w [] acts (disk_of k t staging files))
-  off_none acts out =
-      off_out [] acts (found_lost w.geometry k t (kept_of w staging files) (length w.history) w.start w.history world.mode (stands_as true out) going.spelled)
+  off_none acts out = off_out [] acts (none_found out)
 
   pub off_call : (acts : ℕ) (c : Unfinished) → w.lines_out ≡ true → IsLostOut staging files (lost_view w (c ∷ []) acts (disk_of k t staging files))
-  off_call acts c out = off_out (c ∷ []) acts (found_at_call w.geometry k t (kept_of w staging files) (length w.history) w.start w.history c world.mode (stands_as true out) going.spelled)
+  off_call acts c out = off_out (c ∷ []) acts (call_found c out)
 
   -- with them at home
   empty : length w.home ≡ 0
@@ -121,9 +128,16 @@ module _ (k : View) (t : Tables) (staging : Staged) (files : Files) (w : WorldVi
   same_cells : (e : List Cell) → LinesComeBack (log_line w.geometry 0) w.home k.cells e → cell k.cells ≡ cell e
   same_cells e comes = fun_ext (λ i. sym (comes.others i (λ within. omega (arith, within, empty))))
 
+  -- then the promise is kept
+  promise_home : (unfinished : List Unfinished) → w.lines_out ≡ false → KeepsPromise w.geometry k.cells w.start w.history unfinished
+  promise_home unfinished home =
+      in_each k t staging files w going (KeepsPromise w.geometry k.cells w.start w.history unfinished) false home
+      (λ other stands. keeps_home w.geometry k t (kept_of w staging files) (length w.history) w.start w.history unfinished stands)
+      (λ posix stands. posix_keeps_home w.geometry k t (kept_of w staging files) (length w.history) w.start w.history unfinished stands)
+
   pub off_home : (unfinished : List Unfinished) (acts : ℕ) → w.lines_out ≡ false → IsLostHome (lost_view w unfinished acts (disk_of k t staging files))
   off_home unfinished acts home = record {
-    none = (stands_as false home).lines.0;
+    none = none_at_home k t staging files w going home;
     size = size_now;
     few = omega (arith, empty);
     places = λ n below. absurd (omega (arith, below, empty));
@@ -131,7 +145,7 @@ module _ (k : View) (t : Tables) (staging : Staged) (files : Files) (w : WorldVi
     keeps = λ e comes. (
       λ i. ap (λ (f : ℕ → Cell). is_lent (f i)) (sym (same_cells e comes.back)) ∙ (going.log_home home).home i,
       subst (λ (f : ℕ → Cell). (image : Words) → ((i : ℕ) → IsCandidate (f i) (image i)) → IsHonest w.geometry f image → IsKept w.geometry w.start w.history (map begun_by w.pending ++ unfinished) image) (same_cells e comes.back)
-          (keeps_home w.geometry k t (kept_of w staging files) (length w.history) w.start w.history (map begun_by w.pending ++ unfinished) (stands_as false home)),
+          (promise_home (map begun_by w.pending ++ unfinished) home),
     );
   }
 

@@ -1,16 +1,18 @@
 -- A round of the World begins.
-use Rattle.std.specs.Prelude.{◌≡◌, ◌≤◌, ◌<◌, ◌+◌, ◌*◌, ◌^◌, ℕ, true, false, List, length, refl}
+use Rattle.std.specs.Prelude.{◌≡◌, ◌≢◌, ◌≤◌, ◌<◌, ◌+◌, ◌*◌, ◌^◌, ℕ, true, false, List, length, refl}
 use Rattle.std.proofs.Common.{arith, ap, ◌∙◌, sym, subst}
+use Rattle.file_calls.specs.batch_laws.Together.{PosixStandsAt}
 use Rattle.file_calls.specs.eof_laws.pm_model.declared.Cell.{Cell}
 use Rattle.file_calls.specs.eof_laws.pm_model.declared.Cell.TheVariants.{Lent, Marked, Single, Two}
 use Rattle.file_calls.specs.eof_laws.pm_model.Cells.{cell, is_single, newest}
 use Rattle.file_calls.specs.eof_laws.pm_model.Images.{words_of}
 use Rattle.file_calls.specs.eof_laws.pm_model.Parts.{Part}
+use Rattle.file_calls.specs.eof_laws.pm_model.Words.{Words}
 use Rattle.file_calls.specs.eof_laws.layout_model.Places.{Geometry, log_line}
 use Rattle.in_flight.specs.image_model.Volume.{Volume}
 use Rattle.file_calls.specs.eof_laws.Ends.{FilesEnd}
 use Rattle.in_flight.specs.file_table.Files.{Files}
-use Rattle.file_publish.specs.RoundLinesLaws.{HasTurned, StandsOut, with_first}
+use Rattle.file_publish.specs.RoundLinesLaws.{StandsOut, with_cells}
 use Rattle.in_flight.specs.k_split_model.View.{View}
 use Rattle.in_flight.specs.k_split.Laps.{HasSingleLog, IsLogWord}
 use Rattle.in_flight.specs.k_split.LogLines.{AreLogLines}
@@ -19,7 +21,10 @@ use Rattle.in_flight.specs.block_io.Lines.{AreFrom, line_at, LinesGoOut}
 use Rattle.file_calls.specs.eof_laws.posix_tables.Open.{Tables}
 use Rattle.in_flight.specs.staging_files.Keeps.{Staged}
 use Rattle.in_flight.specs.live_model.Standing.{StandsAt}
+use Rattle.in_flight.specs.posix_types.declared.call.Mode.{Mode}
 use Rattle.world_view_laws.proofs.Ending.{no_both}
+use Rattle.world_view_laws.proofs.Modes.{geometry_now}
+use Rattle.world_view_laws.proofs.PosixLines.{posix_lines_out}
 use Rattle.world_view_laws.specs.Rounds.{IsRoundBegun}
 use Rattle.world_view_laws.specs.Views.{Disk, disk_of, first_by, IsGoing, IsWorldOver, kept_of, state_of, WorldView}
 
@@ -39,17 +44,24 @@ module _ (law : StandsOut) (k l : View) (t : Tables) (staging : Staged) (files :
   going : IsGoing k t staging files w
   going = world.going on
 
-  standing : StandsAt w.geometry k t (kept_of w staging files) false (length w.history) (state_of w)
-  standing = subst (λ b. StandsAt w.geometry k t (kept_of w staging files) b (length w.history) (state_of w)) home (going.stands world.mode)
+  abbrev now_first : Words
+  now_first = first_by w.geometry first
 
-  turned : HasTurned w.geometry k t (kept_of w staging files) (with_first (kept_of w staging files) (first_by w.geometry first)) false true (length w.history) (state_of w) l.cells standing
-  turned = law w.geometry k t (kept_of w staging files) (length w.history) (state_of w) l.cells lines (first_by w.geometry first) words standing (going.log_home home).old (subst IsInOrder same order) are goes
+  turned : w.start.mode ≢ Mode.Posix → StandsAt w.geometry (with_cells k l.cells) t (kept_of (begun_view w l t staging files first) staging files) true (length w.history) (state_of w)
+  turned mode =
+      (law w.geometry k t (kept_of w staging files) (length w.history) (state_of w) l.cells lines now_first words
+      (subst (λ b. StandsAt w.geometry k t (kept_of w staging files) b (length w.history) (state_of w)) home (going.stands mode)) (going.log_home home).old (subst IsInOrder same order) are goes).now
+
+  gathers_turned : w.start.mode ≡ Mode.Posix → PosixStandsAt w.geometry (with_cells k l.cells) t (kept_of (begun_view w l t staging files first) staging files) true (length w.history) w.start w.history
+  gathers_turned posix =
+      posix_lines_out w.geometry k t (kept_of w staging files) (length w.history) w.start w.history l.cells lines now_first words
+      (subst (λ b. PosixStandsAt w.geometry k t (kept_of w staging files) b (length w.history) w.start w.history) home (going.gathers posix)) (going.log_home home).old (subst IsInOrder same order) are goes
 
   going_on : IsGoing l t staging files (begun_view w l t staging files first)
   going_on = record {
-    stands = λ mode. subst (λ (x : View). StandsAt w.geometry x t (kept_of (begun_view w l t staging files first) staging files) true (length w.history) (state_of w)) (sym same) turned.now;
-    gathers = λ posix. absurd (world.mode posix);
-    waits = λ posix. absurd (world.mode posix);
+    stands = λ mode. subst (λ (x : View). StandsAt w.geometry x t (kept_of (begun_view w l t staging files first) staging files) true (length w.history) (state_of w)) (sym same) (turned mode);
+    gathers = λ posix. subst (λ (x : View). PosixStandsAt w.geometry x t (kept_of (begun_view w l t staging files first) staging files) true (length w.history) w.start w.history) (sym same) (gathers_turned posix);
+    waits = λ posix settled. ap (λ (x : View). x.waiting) same ∙ going.waits posix settled;
     counted = going.counted;
     runs = going.runs;
     bare = going.bare;
@@ -89,7 +101,7 @@ module _ (law : StandsOut) (k l : View) (t : Tables) (staging : Staged) (files :
   }
 
   same_places : k.volume.geometry ≡ w.geometry
-  same_places = (going.stands world.mode).geometry
+  same_places = geometry_now k t staging files w going
 
   word_at_first : (n j : ℕ) → n < length lines → j < 8 → cell (line_at lines n).cells j ≡ Single (first_by w.geometry first (8 * (log_line w.geometry 0 + n) + j))
   word_at_first n j below word =

@@ -9,6 +9,8 @@ pub mod Acts
 pub mod Starts
 pub mod Handed
 pub mod Laws
+pub mod PosixLosses
+pub mod PosixLines
 pub use Rattle.file_calls.specs.eof_laws.block_io as block_io
 pub use Rattle.write_end.specs.write_jobs as write_jobs
 pub use Rattle.write_end.specs as write_end

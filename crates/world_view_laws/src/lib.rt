@@ -19,7 +19,7 @@ pub use file_calls::files_end_after_changes_of_maps;
 pub use file_publish::{all_files_are_gathered, publish_file, what_stands_may_be_gathered};
 pub use turns::{
     FileTable, Geometry, Staging, finished_writes_end_with_their_files, jobs_that_ended_stay_home,
-    put_lines,
+    put_lines, the_lines_turn_in_posix_mode, the_power_goes_in_posix_mode,
 };
 pub use views::{
     Commit, Counters, Filled, FilledJob, Full, Job, JobOut, KSplit, NoMemory, OpenFiles, Over,

@@ -1,5 +1,5 @@
 -- The calls of the jobs that may have acted, where an image is kept with those of the jobs that have a slot.
-use Rattle.std.proofs.Common.{◌≡◌, ◌≢◌, ◌++◌, ◌∷◌, [], ℕ, Bool, true, false, cond, List, Option, Some, None, refl, subst, inl, inr}
+use Rattle.std.proofs.Common.{◌≡◌, ◌++◌, ◌∷◌, [], ℕ, Bool, true, false, cond, List, Option, Some, None, refl, subst, inl, inr}
 use Rattle.std.specs.Prelude.{filter, map}
 use Rattle.oplog_entry.specs.pm_model.Words.{Words}
 use Rattle.oplog_entry.specs.layout_model.Places.{Geometry}
@@ -73,11 +73,16 @@ module _ (acts : JobOut → Bool) (slot_of : Job → Option ℕ) (last : List Un
         by rest (Some slot) some false own one = absurd (never (acts p) (holds p j slot (inl refl) (inl refl) are.2 some) own)
 
 -- AN IMAGE IS KEPT WITH THE CALLS OF THESE JOBS unfinished, where it is kept with those that have a slot.
-pub kept_of_acted : (g : Geometry) (start : State) (history : List Item) (acts : JobOut → Bool) (slot_of : Job → Option ℕ) (pending : List JobOut) (jobs : List Job) (last : List Unfinished) (image : Words) → start.mode ≢ Mode.Posix
+pub kept_of_acted : (g : Geometry) (start : State) (history : List Item) (acts : JobOut → Bool) (slot_of : Job → Option ℕ) (pending : List JobOut) (jobs : List Job) (last : List Unfinished) (image : Words) → (start.mode ≡ Mode.Posix → pending ≡ [])
     → AreJobsOf pending jobs → HoldsOfSlots acts slot_of pending jobs → IsKept g start history (calls_in_log (map slot_of jobs) jobs ++ last) image → IsKept g start history (map begun_by (filter acts pending) ++ last) image
-kept_of_acted g start history acts slot_of pending jobs last image mode are holds is =
-    record { checked = is.checked; geometry = is.geometry; tree = is.tree; permitted = λ left tree_is. by start.mode mode left (is.permitted left tree_is) } where
-      by : (m : Mode) → m ≢ Mode.Posix → (left : List TreeEntry) → StronglyPermitted m start history (calls_in_log (map slot_of jobs) jobs ++ last) left → StronglyPermitted m start history (map begun_by (filter acts pending) ++ last) left
-      by Mode.Strict other left permitted = strict_acted acts slot_of last left (run start history) pending jobs are holds permitted
-      by Mode.Sync other left permitted = sync_acted acts slot_of last left (run start history) pending jobs are holds permitted
-      by Mode.Posix other left permitted = absurd (other refl)
+kept_of_acted g start history acts slot_of pending jobs last image jobless are holds is =
+    record { checked = is.checked; geometry = is.geometry; tree = is.tree; permitted = λ left tree_is. by start.mode refl left (is.permitted left tree_is) } where
+      alike : (pending : List JobOut) (jobs : List Job) → AreJobsOf pending jobs → pending ≡ [] → calls_in_log (map slot_of jobs) jobs ≡ map begun_by (filter acts pending)
+      alike [] [] are none = refl
+      alike [] (j ∷ jobs) are none = absurd are
+      alike (p ∷ pending) jobs are none = cc
+
+      by : (m : Mode) → start.mode ≡ m → (left : List TreeEntry) → StronglyPermitted m start history (calls_in_log (map slot_of jobs) jobs ++ last) left → StronglyPermitted m start history (map begun_by (filter acts pending) ++ last) left
+      by Mode.Strict own left permitted = strict_acted acts slot_of last left (run start history) pending jobs are holds permitted
+      by Mode.Sync own left permitted = sync_acted acts slot_of last left (run start history) pending jobs are holds permitted
+      by Mode.Posix own left permitted = subst (λ cs. StronglyPermitted Mode.Posix start history (cs ++ last) left) (alike pending jobs are (jobless own)) permitted

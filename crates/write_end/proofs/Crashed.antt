@@ -117,6 +117,12 @@ log_or_not v i = elim (cases_lt (i / 8) (log_line v.geometry 0)) [
       ]
 ]
 
+-- where none is out there is no job
+no_jobs : (pending : List JobOut) (jobs : List Job) → AreJobsOf pending jobs → pending ≡ [] → jobs ≡ []
+no_jobs [] [] are none = refl
+no_jobs [] (j ∷ jobs) are none = absurd are
+no_jobs (p ∷ pending) jobs are none = cc
+
 -- ---- the crash
 
 module _ (v : Volume) (d middle e : List Cell) (kept : Kept) (start : State) (history : List Item) (last : List Unfinished) (loans : List Part) (filled : List FilledView) (taken : List (ℕ × Draft)) (lines : List Part)
@@ -374,7 +380,7 @@ module _ (v : Volume) (d middle e : List Cell) (kept : Kept) (start : State) (hi
     pub keeps_image : IsHonest v.geometry (cell e) image → IsKept v.geometry start history (map begun_by kept.pending ++ last) image
     keeps_image honest =
         subst (λ (calls : List Unfinished). IsKept v.geometry start history (calls ++ last) image) (calls_are kept.pending lost.jobs lost.jobs_are)
-        (kept_of_all v.geometry start history (map slot_of lost.jobs) lost.jobs last image lost.mode (in_log_kept honest))
+        (kept_of_all v.geometry start history (map slot_of lost.jobs) lost.jobs last image (λ posix. no_jobs kept.pending lost.jobs lost.jobs_are (lost.jobless posix)) (in_log_kept honest))
 
     -- or with those of the jobs that a test tells, which misses none that may have acted
     module _ (acts : JobOut → Bool) (misses : MissesNone kept.pending d taken acts) where
@@ -391,7 +397,7 @@ module _ (v : Volume) (d middle e : List Cell) (kept : Kept) (start : State) (hi
         ]
 
       pub keeps_acted : IsHonest v.geometry (cell e) image → IsKept v.geometry start history (map begun_by (filter acts kept.pending) ++ last) image
-      keeps_acted honest = kept_of_acted v.geometry start history acts slot_of kept.pending lost.jobs last image lost.mode lost.jobs_are holds_of_slots (in_log_kept honest)
+      keeps_acted honest = kept_of_acted v.geometry start history acts slot_of kept.pending lost.jobs last image lost.jobless lost.jobs_are holds_of_slots (in_log_kept honest)
 
 pub keeps_crashed : KeepsCrashed
 keeps_crashed v d middle e kept start history last loans filled taken lines lost handed crash comes home = record {
@@ -401,11 +407,6 @@ keeps_crashed v d middle e kept start history last loans filled taken lines lost
 }
 
 -- ---- with the lines at home
-
-no_jobs : (pending : List JobOut) (jobs : List Job) → AreJobsOf pending jobs → pending ≡ [] → jobs ≡ []
-no_jobs [] [] are none = refl
-no_jobs [] (j ∷ jobs) are none = absurd are
-no_jobs (p ∷ pending) jobs are none = cc
 
 pub keeps_home : KeepsHome
 keeps_home g k t kept n start history unfinished stands =

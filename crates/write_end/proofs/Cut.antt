@@ -295,7 +295,7 @@ module _ (k m l : View) (job : FilledView) (has : HasJob k job) (slot : ℕ) (u 
 
   lost : IsLostWith vol cells (claimed_by has.kept slot has.p) start history []
   lost = record {
-    mode = λ posix. (let never : Mode.Sync ≡ Mode.Posix = sym sync ∙ posix in cc);
+    jobless = λ posix. (let never : Mode.Sync ≡ Mode.Posix = sym sync ∙ posix in cc);
     jobs = jobs;
     jobs_are = subst (AreJobsOf has.kept.pending) landed.jobs_are has.stands.jobs_are;
     whole = λ strict. absurd (not_strict (sym sync ∙ strict));

@@ -23,6 +23,7 @@ use Rattle.in_place.specs.k_split_laws.list_laws.Members.{In, pushed-In}
 use Rattle.in_place.specs.write_plan.eof_laws.log_checkpoint.posix_laws.Puts.{PutsWhole}
 use Rattle.in_place.specs.k_split_laws.posix_spec.Run.{Unfinished, run}
 use Rattle.in_place.specs.k_split_laws.posix_types.declared.call.Call.{Call}
+use Rattle.in_place.specs.k_split_laws.posix_types.declared.call.Mode.{Mode}
 use Rattle.in_place.specs.k_split_laws.posix_types.declared.call.Who.{Who}
 use Rattle.in_place.specs.k_split_laws.posix_types.declared.item.Item.{Item}
 use Rattle.in_place.specs.write_plan.posix_tables.Open.{same_who}
@@ -261,9 +262,13 @@ module _ (v : Volume) (d e : List Cell) (kept : Kept) (start : State) (history :
     | inr other ↦ (x, other, same, had)
   ]
 
+  -- a job is out, so the mode is not POSIX mode
+  job_out : start.mode ≡ Mode.Posix → ⊥
+  job_out posix = subst (In p) (lost.jobless posix) is.out.there
+
   pub given_up : IsLostWith v e (without_job kept p) start history last
   given_up = record {
-    mode = lost.mode;
+    jobless = λ posix. absurd (job_out posix);
     jobs = split.a ++ split.b;
     jobs_are = split.rest;
     whole = λ strict. whole_rest split.a j split.b (subst AreWhole split.jobs_are (lost.whole strict));
@@ -340,7 +345,7 @@ module _ (v : Volume) (d e : List Cell) (kept : Kept) (start : State) (history :
 
     pub finished : IsLostWith v e (claimed_by kept slot p) start history last
     finished = record {
-      mode = lost.mode;
+      jobless = λ posix. absurd (job_out posix);
       jobs = lost.jobs;
       jobs_are = lost.jobs_are;
       whole = lost.whole;

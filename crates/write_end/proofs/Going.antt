@@ -31,7 +31,7 @@ use Rattle.write_end.specs.Lost.{IsLostWith}
 
 pub loses_call : LosesCall
 loses_call g k t kept n start history last e mode stands spelled left keeps = record {
-  mode = mode;
+  jobless = λ posix. absurd (mode posix);
   jobs = stands.jobs;
   jobs_are = stands.jobs_are;
   whole = λ strict. stands.flying.whole ((setting_run start history).mode ∙ strict);
@@ -91,7 +91,7 @@ lost_alike v d kept then start history last pending claims first lost =
     subst (λ (xs : Words). IsLostWith v d (record then { first = xs }) start history last) (sym first)
     (subst (λ (xs : List (ℕ × Draft)). IsLostWith v d (record then { first = kept.first; claims = xs }) start history last) (sym claims)
     (subst (λ (xs : List JobOut). IsLostWith v d (record then { first = kept.first; claims = kept.claims; pending = xs }) start history last) (sym pending) (record {
-      mode = lost.mode;
+      jobless = lost.jobless;
       jobs = lost.jobs;
       jobs_are = lost.jobs_are;
       whole = lost.whole;

@@ -1,5 +1,5 @@
 -- A World whose power went while log lines and blocks of jobs are out.
-use Rattle.std.specs.Prelude.{◌≡◌, ◌≢◌, ◌⊎◌, ℕ, true, AllPairs, List, [], ◌∷◌, ◌++◌, Option, Some, None}
+use Rattle.std.specs.Prelude.{◌≡◌, ◌⊎◌, ℕ, true, AllPairs, List, [], ◌∷◌, ◌++◌, Option, Some, None}
 use Rattle.oplog_entry.specs.pm_model.declared.Cell.{Cell}
 use Rattle.oplog_entry.specs.pm_model.Cells.{cell, is_lent}
 use Rattle.oplog_entry.specs.pm_model.Images.{IsImage}
@@ -43,14 +43,14 @@ IsKeptLost v d first claims jobs slot_of start history last =
     (back : ℕ → Cell) (slots : List (Option ℕ)) (image : Words) → IsPutBack v d back first claims jobs slots image → HoldLost v (put_back d back) jobs slots slot_of
     → IsKept v.geometry start history (calls_in_log slots jobs ++ last) image
 
--- THE POWER IS LOST, while the log lines are out. The jobs are those that are kept as out, of each of which all bytes are found in strict
--- mode. Of the claims some were finished (`done`); the
+-- THE POWER IS LOST, while the log lines are out. The jobs are those that are kept as out, none in POSIX mode, of each of which all bytes
+-- are found in strict mode. Of the claims some were finished (`done`); the
 -- others are of jobs whose finish lost the power, by the inode of the file one slot each (`slot_of`). The World was valid with the claims
 -- that were finished and all these jobs, by some words: so no two jobs share a block. A word that is lent is one of a log line or of a
 -- block of a job; and the journal of each image is sound. THE PROMISE is kept with the calls of the jobs that may have a line unfinished, and behind them the
 -- last ones: the call that lost the power, if one did.
 pub record IsLostWith (v : Volume) (cells : List Cell) (kept : Kept) (start : State) (history : List Item) (last : List Unfinished) : Type 0 where
-  pub mode : start.mode ≢ Mode.Posix
+  pub jobless : start.mode ≡ Mode.Posix → kept.pending ≡ []
   pub jobs : List Job
   pub jobs_are : AreJobsOf kept.pending jobs
   pub whole : AreFound start jobs

@@ -1,3 +1,6 @@
+mod Finding
+mod Going
+mod Settled
 pub mod Turning
 mod Writing
 mod Firsts

@@ -1,3 +1,4 @@
+pub mod Progress
 pub mod Turns
 pub mod Rooms
 pub mod Runs

@@ -1,5 +1,5 @@
-use Rattle.progress_laws.proofs.Going.{begins_at_first, checkpoints_at_first, first_calls_begin, first_calls_go_on, mounts_at_first}
-use Rattle.progress_laws.proofs.the_first_call_of_a_round_goes_on.Goals as goal
+use Rattle.world_begins.proofs.Going.{begins_at_first, checkpoints_at_first, first_calls_begin, first_calls_go_on, mounts_at_first}
+use Rattle.world_begins.proofs.progress.the_first_call_of_a_round_goes_on.Goals as goal
 
 pub returns-clause-mounted : goal.returns-clause-mounted
 returns-clause-mounted c = mounts_at_first

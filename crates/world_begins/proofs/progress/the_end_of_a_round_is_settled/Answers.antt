@@ -1,5 +1,5 @@
-use Rattle.progress_laws.proofs.Settled.{ends_with_one_pair, jobs_have_room, returns_have_room, strict_ends_leave_all, waits_alone}
-use Rattle.progress_laws.proofs.the_end_of_a_round_is_settled.Goals as goal
+use Rattle.world_begins.proofs.Settled.{ends_with_one_pair, jobs_have_room, returns_have_room, strict_ends_leave_all, waits_alone}
+use Rattle.world_begins.proofs.progress.the_end_of_a_round_is_settled.Goals as goal
 
 pub returns-clause-returns : goal.returns-clause-returns
 returns-clause-returns c = returns_have_room

@@ -50,7 +50,7 @@ use Rattle.world_parts.specs.world_view_laws.in_flight.live_model.Standing.{JobO
 use Rattle.world_parts.proofs.world_view_laws_proofs.Holes.{no_holes, unplaced_holes}
 use Rattle.world_parts.specs.world_view_laws.Begins.{IsStagingNeed, LacksBeside, LacksHoles, LacksStaging, with_disk}
 use Rattle.world_parts.specs.world_view_laws.Views.{Disk, IsGoing, IsWorldOver, kept_of, state_of, WorldView}
-use Rattle.progress_laws.specs.Laws.{FirstCallsHaveRoom, IsAtFirst}
+use Rattle.world_begins.specs.Progress.{FirstCallsHaveRoom, IsAtFirst}
 
 -- ---- what the plan writes in place
 

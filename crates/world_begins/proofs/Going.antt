@@ -8,7 +8,7 @@ use Rattle.world_parts.specs.declared.outcomes.Begun.{Begun}
 use Rattle.world_parts.specs.world_view_laws.declared.views.over.Over.{Over}
 use Rattle.world_parts.specs.world_view_laws.Begins.{EndsRound, IsOver, IsPowerLost, IsRoundOver, Waits}
 use Rattle.world_parts.specs.world_view_laws.Views.{Disk, WorldView}
-use Rattle.progress_laws.specs.Laws.{BeginsAtFirst, CheckpointsAtFirst, FirstCallsBegin, FirstCallsGoOn, IsAtFirst, MountsAtFirst, RoundsGetFurther}
+use Rattle.world_begins.specs.Progress.{BeginsAtFirst, CheckpointsAtFirst, FirstCallsBegin, FirstCallsGoOn, IsAtFirst, MountsAtFirst, RoundsGetFurther}
 
 -- ---- where it is so
 

@@ -1,5 +1,5 @@
-use Rattle.progress_laws.proofs.Finding.{first_calls_have_room}
-use Rattle.progress_laws.proofs.the_first_call_of_a_round_finds_room.Goals as goal
+use Rattle.world_begins.proofs.Finding.{first_calls_have_room}
+use Rattle.world_begins.proofs.progress.the_first_call_of_a_round_finds_room.Goals as goal
 
 pub returns : goal.returns
 returns c =

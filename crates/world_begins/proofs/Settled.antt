@@ -18,7 +18,7 @@ use Rattle.world_parts.specs.world_view_laws.in_flight.staging_files.Reserves.{h
 use Rattle.world_parts.specs.world_view_laws.Begins.{Begins, HasFilled, IsNeed, IsOfOpenFile, IsStagingNeed, LacksBeside, LacksRun, LacksSpace, Publishes, with_disk}
 use Rattle.write_plan.specs.Plans.{staged_run}
 use Rattle.world_parts.specs.world_view_laws.Views.{Disk, files_out, state_of, WorldView}
-use Rattle.progress_laws.specs.Laws.{EndsWithOnePair, HasApplied, JobsHaveRoom, ReturnsHaveRoom, StrictEndsLeaveAll, SyncsPublish, WaitsAlone}
+use Rattle.world_begins.specs.Progress.{EndsWithOnePair, HasApplied, JobsHaveRoom, ReturnsHaveRoom, StrictEndsLeaveAll, SyncsPublish, WaitsAlone}
 
 -- a World has one next call of a caller
 one_call : (w : WorldView) (who : Who) (call other : Call) → Begins w who call → Begins w who other → call ≡ other

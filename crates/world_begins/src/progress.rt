@@ -11,11 +11,9 @@
 //!
 //! Files have at most the blocks that the room counts once all is published, so rounds end.
 //!
-//! Stands on `world_parts`, and on `call_laws`, `write_plan`, `write_begin` and `in_place` for the first write. Nothing
-//! stands on it: it shows what the words of the layers below come to.
-#![tactic(auto)]
+//! Nothing stands on them: they show what the words of the layers below come to.
 
-ghost use Rattle.progress_laws.specs.Laws.{BeginsAtFirst, CheckpointsAtFirst, EndsWithOnePair, FirstCallsBegin, FirstCallsGoOn, FirstCallsHaveRoom, JobsHaveRoom, MountsAtFirst, ReturnsHaveRoom, RoundsGetFurther, StrictEndsLeaveAll, SyncsPublish, WaitsAlone};
+ghost use Rattle.world_begins.specs.Progress.{BeginsAtFirst, CheckpointsAtFirst, EndsWithOnePair, FirstCallsBegin, FirstCallsGoOn, FirstCallsHaveRoom, JobsHaveRoom, MountsAtFirst, ReturnsHaveRoom, RoundsGetFurther, StrictEndsLeaveAll, SyncsPublish, WaitsAlone};
 
 use call_laws::kept_numbers_are_those_of_the_state;
 use write_plan::{the_first_holes_find_their_blocks, the_first_write_finds_its_blocks};

@@ -1,3 +1,0 @@
-mod Finding
-mod Going
-mod Settled

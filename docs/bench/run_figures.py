@@ -1,17 +1,18 @@
 #!/usr/bin/env python3
 """Prints what MEASURED says of runs by threads, of one built program.
 
-    run_figures.py PROGRAM            calls a second of `run` by 1, 2, 4 and 8 threads, and of `step` with the same threads in turn,
-                                      for appends of 1 and of 8 blocks
+    run_figures.py PROGRAM            appends a second within the rounds of `run` by 1, 2, 4 and 8 threads, and of `step` with the
+                                      same threads in turn, for appends of 1 and of 8 blocks
     run_figures.py PROGRAM --split    where the instructions of the workers go, by 1 and by 4 threads, by valgrind's callgrind: of each
                                       function its share with all that it calls, from one in a hundred on. What `Job::fill` and
                                       `OpLog::append` have is outside the turn, all else inside; and what rounds cost between
-    run_figures.py PROGRAM --waits    how often threads sleep, by strace: calls of futex beside the appends
+    run_figures.py PROGRAM --waits    how often threads sleep, by perf: the switches of a whole run beside its appends
 
-The machine should have nothing else to do, and four processors. A program's time is taken for scripts of two sizes
-(make_run_scripts.sh), twenty-one times each: the difference of their appends by the difference of the middle times, so that what a run
-costs besides (reading, checks, mounts, the tree) counts for nothing. Names of functions that the compiler put into others are
-missing: what they cost is that of the function above them.
+The machine should have nothing else to do, and four processors. Of `run` the rounds alone are timed, each from its first thread's
+start to its last one's end, as perf (Debian's linux-perf) notes them, which costs a thread nothing while it runs; what a run
+costs besides (reading, checks, mounts, checkpoints, the tree) counts for nothing. The time of `step` is taken for scripts of two
+sizes (make_run_scripts.sh): the difference of their appends by the difference of the middle times. Each is the middle one of
+twenty-one. Names of functions that the compiler put into others are missing: what they cost is that of the function above them.
 """
 
 import argparse
@@ -49,11 +50,37 @@ def seconds(program, word, script):
     return statistics.median(taken)
 
 
-def a_second(program, word, blocks, threads):
-    """Appends a second, by scripts of two sizes."""
+def rounds(program, script):
+    """The time of the rounds of a run, in seconds, and how many they are."""
+    with tempfile.NamedTemporaryFile() as told:
+        record = ["perf", "record", "-q", "-e", "dummy", "-o", told.name, program, "run", "image", script, "strict"]
+        subprocess.run(record, stdout=subprocess.DEVNULL, stderr=subprocess.DEVNULL, check=True)
+        show = ["perf", "script", "-i", told.name, "--show-task-events"]
+        text = subprocess.run(show, capture_output=True, text=True, check=True).stdout
+    alive, began, taken, count = 0, 0.0, 0.0, 0
+    for at, event in re.findall(r"([\d.]+): PERF_RECORD_(FORK|EXIT)", text):
+        if event == "FORK":
+            began = float(at) if alive == 0 else began
+            alive += 1
+        elif alive > 0:
+            alive -= 1
+            if alive == 0:
+                taken += float(at) - began
+                count += 1
+    return taken, count
+
+
+def run_a_second(program, blocks, threads):
+    """Appends a second within the rounds of a run."""
+    script = f"{blocks}-{threads}-large"
+    return appends_in(script) / statistics.median(rounds(program, script)[0] for _ in range(TIMES))
+
+
+def step_a_second(program, blocks, threads):
+    """Appends a second by events, by scripts of two sizes."""
     small, large = (f"{blocks}-{threads}-{size}" for size in ("small", "large"))
     more = appends_in(large) - appends_in(small)
-    return more / (seconds(program, word, large) - seconds(program, word, small))
+    return more / (seconds(program, "step", large) - seconds(program, "step", small))
 
 
 def tell_speed(program):
@@ -61,9 +88,9 @@ def tell_speed(program):
     for blocks in BLOCKS:
         alone = None
         for threads in THREADS:
-            by_threads = a_second(program, "run", blocks, threads)
+            by_threads = run_a_second(program, blocks, threads)
             alone = alone or by_threads
-            by_events = a_second(program, "step", blocks, threads)
+            by_events = step_a_second(program, blocks, threads)
             name = "1 block" if blocks == 1 else f"{blocks} blocks"
             print(f"| {name} | {threads} | {by_threads:,.0f} | {by_threads / alone:.2f} | {by_events:,.0f} |", flush=True)
 
@@ -86,15 +113,13 @@ def tell_split(program):
 
 
 def tell_waits(program):
-    print("| appends of | threads | appends | calls of futex |\n|---|---|---|---|")
+    print("| appends of | threads | appends | switches |\n|---|---|---|---|")
     for blocks in BLOCKS:
         for threads in THREADS:
             name = f"{blocks}-{threads}-large"
-            with tempfile.NamedTemporaryFile("r") as told:
-                run = ["strace", "-f", "-e", "trace=futex", "-o", told.name, program, "run", "image", name, "strict"]
-                subprocess.run(run, stdout=subprocess.DEVNULL, check=True)
-                sleeps = sum("FUTEX_WAIT" in line and "resumed" not in line for line in told)
-            print(f"| {blocks} | {threads} | {appends_in(name):,} | {sleeps:,} |", flush=True)
+            run = ["perf", "stat", "-x", ",", "-e", "context-switches", program, "run", "image", name, "strict"]
+            told = subprocess.run(run, stdout=subprocess.DEVNULL, stderr=subprocess.PIPE, text=True, check=True).stderr
+            print(f"| {blocks} | {threads} | {appends_in(name):,} | {int(told.split(',')[0]):,} |", flush=True)
 
 
 def main():

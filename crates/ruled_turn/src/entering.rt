@@ -10,6 +10,7 @@ use crate::passes::Pass;
 use crate::protocols::Protocol;
 use crate::table::{Releases, Takes, TurnSeat, TurnShared};
 use crate::turns::Turn;
+use crossbeam_utils::Backoff;
 use std::sync::Wait;
 
 // Takes the turn if it is free: the word that was found is 0 where it was.
@@ -22,7 +23,8 @@ fn take<T, V, P: Protocol<T, V>>(shared: &TurnShared<T, V, P>, seat: &mut TurnSe
     shared.compare_exchange::<Takes<P>>(seat, 0, 0, 1)
 }
 
-// Takes the turn, and sleeps while another has it.
+// Takes the turn. While another has it, the thread looks again for some microseconds, in which most leave it, and then
+// sleeps.
 fn wait<T, V, P: Protocol<T, V>, R: Wait>(
     rt: &R,
     shared: &TurnShared<T, V, P>,
@@ -33,11 +35,16 @@ fn wait<T, V, P: Protocol<T, V>, R: Wait>(
     ensures table { seat.new.table_id ≡ seat.old.table_id }
     ensures enters { Enters P.knows seat.old.me seat.new.me }
 {
+    let backoff = Backoff::new();
     for _ in rt.forever() {
         if take(shared, seat) == 0 {
             return;
         }
-        shared.park(rt, 0, 1);
+        if backoff.is_completed() {
+            shared.park(rt, 0, 1);
+        } else {
+            backoff.snooze();
+        }
     }
     unreachable!()
 }

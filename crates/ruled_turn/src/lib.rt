@@ -4,13 +4,13 @@
 //! the value alone until it leaves one. What the value and the passes keep is the caller's `Protocol`: facts
 //! of the value and of the views of all passes. One who enters learns what the protocol says of the value and
 //! of its own view; one who leaves owes what the protocol allows; and once the turn is closed, the rule holds
-//! of the value and of the views of all passes. A thread that waits sleeps.
+//! of the value and of the views of all passes. A thread that waits looks again for some microseconds, then sleeps.
 //!
 //! That a thread that waits is let in is not promised.
 //!
 //! The word of a turn is 0 or 1, and the view of a pass is a type of the caller's protocol.
 //!
-//! Stands on `list_laws` and the kit's `atomic_table`.
+//! Stands on `list_laws` and the kit's `atomic_table` and `crossbeam_utils`.
 #![tactic(auto)]
 
 mod closing;

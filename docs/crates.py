@@ -26,7 +26,7 @@ LAYERS: list[tuple[str, str]] = [
     ("The file calls and the modes", "posix_types posix_tables posix_spec posix_laws crash_spec commute_laws crash_judge"),
     (
         "K-Split: names, nodes and maps behind the journal",
-        "k_journal k_split_model name_laws volume_change_laws k_reading check_image k_check k_tables k_plans k_map_plans k_split",
+        "k_journal k_split_model name_laws volume_change_laws k_reading check_image k_check k_tables k_plans k_map_plans k_group_commit k_split",
     ),
     (
         "The World as mathematics",
@@ -43,7 +43,7 @@ LAYERS: list[tuple[str, str]] = [
     ),
     (
         "The World as it runs",
-        "world_view_laws call_laws round_laws run_laws progress_laws world_parts world_begins world_rounds split_world "
+        "world_view_laws call_laws round_laws run_laws world_parts world_begins world_rounds split_world "
         "schedule split_machine",
     ),
     ("Runs by threads", "ruled_turn oplog_tail thread_laws split_threads"),

@@ -18,7 +18,7 @@ returns-in-Ok c =
     let m = c.in-Ok.ensures.answer.1 in
     record {
       mounted = m;
-      is_tree = own-tree (geometry_of image) image k m c.in_ok-tree-in-Ok.tree c.a_remount_shows_the_same.ensures.trees (c.in_ok-tree-in-Ok.ensures.content (own-live (geometry_of image) image k m));
+      is_tree = own-tree (geometry_of image) image k m c.in_ok-tree-in-Ok.tree c.a_remount_shows_the_same.ensures.trees (c.in_ok-tree-in-Ok.ensures.content (m.rest.order.none_set m.rest.unbatched) (own-live (geometry_of image) image k m));
     }
 
 pub unreachable-requires : goal.unreachable-requires
